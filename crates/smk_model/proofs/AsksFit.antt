@@ -47,7 +47,7 @@ asked_backs_fit catalog state asked checked =
       stays = staying_stays state wanted;
     }
 
--- typed steps have a name for each kind, and no fault of them is want of memory
+-- typed steps have a name for each kind, and no fault of them is being out of memory
 abbrev IsNamed : AskPlan → Type 0
 IsNamed typed = length typed.names ≡ length typed.kinds
 

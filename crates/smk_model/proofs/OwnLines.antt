@@ -117,7 +117,7 @@ none_is_all_of (replies.View rel) = none_is_all rel.rows
 none_is_all_of (replies.Back rids rows) = (none_is_all rids, none_is_all rows.rows)
 none_is_all_of _ = tt
 
--- what a line comes to by itself
+-- what a line gives by itself
 
 stays_next : (state : State) (asked : Asked Reply) → (or_refused state (staying state asked)).1 ≡ state
 stays_next state (Ok told) = refl

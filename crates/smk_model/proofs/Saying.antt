@@ -1,4 +1,4 @@
--- Typing never says want of memory: each of its faults has a place.
+-- Typing never says that memory ran out: each of its faults has a place.
 use Rattle.std.specs.{Prelude.{◌≢◌, Bool, true, false, not, nat_eq, nat_lt, length, map, List, [], ◌∷◌, ◌++◌, ◌+◌, ℕ, Option, Some, None, ok_or, Ok, Err}, List.{list_any, zip}}
 use Rattle.smk_base.specs.{declared.value.Kind.Kind, declared.book.tree.Word.Word, declared.book.tree.Term.Term, declared.book.tree.ItemTree.ItemTree, declared.book.tree.AggTree.AggTree, declared.book.tree.AggWhat.AggWhat, declared.book.tree.PairTree.PairTree, declared.book.plan.Agg.Agg, declared.book.catalog.Column.Column, declared.book.catalog.TableInfo.TableInfo, declared.book.type_fault.TypeFault.TypeFault, declared.book.type_fault.TypeFault.TheVariants.{NoMemory, KindMismatch, DuplicateName, SumTooDeep, UnionShape, EmptyList, RowTooWide}, Plans.{Binary, BagUnion, SetUnion, Comparison}, Trees.{PredImage, CompareNode, AndNode, OrNode, NotNode, TreeImage, ScanNode, StepNode, StepImage, SelectNode, ProjectNode, DistinctNode, GroupNode, JoinNode, ThetaNode, ProductNode, UnionAllNode, UnionNode}, declared.rel.TheConstants.COLUMN_LIMIT}
 use Rattle.smk_base.specs.declared.value.Kind.TheVariants as kinds
@@ -9,7 +9,7 @@ use Rattle.smk_base.specs.declared.book.plan.Agg.TheVariants as aggs
 use Rattle.smk_base.specs.declared.book.plan.Item.TheVariants as items
 use Rattle.smk_model.specs.{Names.{Typed, ◌>>=◌, unless, in_turn, has_name, column_named, same_sort, is_text}, TypedSteps.{TypedPlan, TypedGroup, named, item_name, term_place, share_a_name, same_shape, united_column, typed_term, typed_pred, typed_item, item_after, typed_items, key_after, typed_sum, typed_agg, agg_after, whole_group, typed_group, pair_after, joined, united, united_plan}, Typing.{table_by_word, typed_plan, typed_step}}
 
--- a result, or a fault that isn't want of memory
+-- a result, or a fault that isn't being out of memory
 abbrev pub Says : {A : Type 0} → Typed A → Type 0
 Says (Ok a) = Unit {0}
 Says (Err fault) = fault ≢ NoMemory

@@ -1,4 +1,4 @@
--- Parts of rows, and what a line comes to over the rows that its marks came from.
+-- Parts of rows, and what a line gives over the rows that its marks came from.
 use Rattle.std.specs.{Prelude.{◌<◌, ◌-◌, min, map, take, drop, slice_index_or, cond, Option, Some, None, Result, Ok, Err, IfOk, codes, decimal}, List.{filter, AllPairs}}
 use Rattle.std.proofs.{Common.{◌≡◌, ◌≤◌, ◌+◌, ℕ, Bool, true, false, List, [], ◌∷◌, ◌++◌, length, ap, sym, ◌∙◌, subst, refl, arith, inl, inr}, lemmas.Bool.cases_lt, lemmas.List.{take_all, take_min, take-map, drop-map, drop-take, drop_all, drop_min, length-drop, length-take, length-map, get_or-take, get_or-drop, get_or_default}, lemmas.List.Elements.{All-take, All-drop, All-filter}, lemmas.List.Kept.AllPairs-filter}
 use Rattle.smk_base.specs.{CatalogImage.CatalogImage, Picks.IsAscending, Places.{upto, has}, Trees.AskImage, declared.book.catalog.Column.Column, declared.book.catalog.TableInfo.TableInfo, declared.book.tree.Line.Line, declared.book.tree.Marks.Marks, declared.book.tree.Then.Then, declared.reply.Refusal.Refusal, Rels.Relation}
@@ -178,7 +178,7 @@ over_stands catalog state now asked found checked is =
     subst (λ told. IsAskReplyTo asked (ask_over catalog asked told)) (sym (narrowed_is catalog state now (back_line asked) found is))
     (same_stand asked (typed_steps (columns_named catalog asked.table) asked.steps) (rows found.rids) (rows (rids_told catalog state now found)) fits)
 
--- what a `back` line comes to whose rows are found
+-- what a `back` line gives whose rows are found
 pub back_told : (catalog : CatalogImage) (state : State) (part : Option RowsPart) (now : Bool) (asked : Line) (view : List ℕ) (marks : Marks) (table : List ℕ) (then : Then) (found : RowsBehind) (told : OwnAnswer) → asked ≡ lines.Back view marks table then
     → IsBehind catalog state (lines.Back view marks table then) found
     → told.text.items ≡ placed_text part (back_words view table) (names_of_table (Some (info_at catalog.tables found.table))) (rids_told catalog state now found) (rows_at_rids catalog state found.table (rids_told catalog state now found)).rows

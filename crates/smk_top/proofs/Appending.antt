@@ -19,7 +19,7 @@ appends_more (Some a) (Some b) None x y p q = absurd q
 appends_more (Some a) (Some b) (Some c) x y p q = q ∙ rw p (append_assoc a x y)
 appends_more _ _ c x y p q = absurd p
 
--- a front of the whole
+-- a prefix of the whole
 pub front_of : (a b : Option (List ℕ)) (x rest whole : List ℕ) → Appends a b x → whole ≡ x ++ rest → AppendsPart a b whole
 front_of a b x rest whole p is = (x, (rest, is), p)
 
@@ -79,11 +79,11 @@ pub put_stops : (X Y : Type 0) (a b : Option (List ℕ)) (rose : Type 0) (text w
 put_stops X Y a b rose text whole Unwritten is p = rw (← is) p
 put_stops X Y a b rose text whole _ is p = absurd p
 
--- memory is wanting
+-- memory runs out
 pub wants_stop : (X : Type 0) (a b : Option (List ℕ)) (rose : Type 0) (text : List ℕ) (stop : Stop) → stop ≡ Exhausted → AppendsPart a b text → PutsPieces {X = X} text rose a b (Err stop)
 wants_stop X a b rose text stop is part = rw is part
 
--- both parts are written, and then memory may be wanting
+-- both parts are written, and then memory may run out
 pub whole_part : (X : Type 0) (a b c : Option (List ℕ)) (rose : Type 0) (text rest : List ℕ) (result : Result X Stop) → IfErr result (λ stop. stop ≡ Exhausted)
     → Appends a b text → Appends b c rest → PutsPieces (text ++ rest) rose a c result
 whole_part X a b c rose text rest (Ok x) wants p q = appends_more a b c text rest p q

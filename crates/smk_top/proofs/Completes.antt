@@ -1,4 +1,4 @@
--- A run has one outcome and a conversation one start, so that where there is no fault no other ending is left but want of memory.
+-- A run has one outcome and a conversation one start, so that where there is no fault no other ending is left but being out of memory.
 use Rattle.std.specs.{Prelude.{Result, ⊤, length, map}, List.concat}
 use Rattle.std.specs.Io.KnownBytes as known
 use Rattle.std.proofs.Common.{◌≡◌, ◌⊎◌, ℕ, List, [], Option, Some, None, Ok, Err, refl, ap, ◌∙◌, subst, inl, inr}

@@ -124,7 +124,7 @@ pub sayable_pieces : {X : Type 0} (text : List ℕ) (rose : Type 0) (a b : Optio
 sayable_pieces text rose a b (Err (At fault)) w = absurd w
 sayable_pieces text rose a b _ w = tt
 
--- a report that is only measured stops for want of memory alone
+-- a report that is only measured stops only when it is out of memory
 pub measured_stops : (X : Type 0) (writes : Report → List ℕ) (given : Inputs) (text : List ℕ) (rose : Type 0) (a : Option (List ℕ)) (stop : Stop) → PutsPieces {X = X} text (Rose 0 0) None None (Err stop) → Reports writes given rose a a (Err stop)
 measured_stops X writes given text rose a (At fault) w = absurd w
 measured_stops X writes given text rose a Unwritten w = absurd (never_rose w.1)
@@ -209,7 +209,7 @@ reports_later writes given rose a b before after (Err (At fault)) w = λ met. ab
 reports_later writes given rose a b before after (Err Unwritten) w = tt
 reports_later writes given rose a b before after (Err Exhausted) w = tt
 
--- neither a report nor want of memory is a fault of what is read
+-- neither a report nor being out of memory is a fault of what is read
 pub no_report_is_a_fault : (report : Report) (status : Status) → status ≡ status_of_report report → IsReadingFault status → ⊥
 no_report_is_a_fault report status is met = by (is_turned_down report) (subst IsReadingFault is met)
   where

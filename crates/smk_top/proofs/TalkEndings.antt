@@ -41,7 +41,7 @@ none_failed : (n faults faults_after : ℕ) → faults ≤ faults_after → Fail
 none_failed n faults faults_after later (inl none) = inl (omega (arith, later, none))
 none_failed n faults faults_after later (inr last) = absurd (omega (arith, last))
 
--- what a conversation comes to, by the words that call for it
+-- what a conversation gives, by the words that call for it
 module _ (words : List (List ℕ)) (call : TalkCall) (asked : talk_call_of words ≡ Some call) (held : Option Held) (faults faults_after : ℕ) (talk_rose : Type 0) (before after : Told) (looks_before looks_after : ℕ) where
   talks_by : (here here_after : ℕ) (given : Inputs) (end : TalkEnd)
       → ((table : Option TableInfo) (brought : Result (List Row) Fault) → BringsBy (line_files call.texts held) (Rose here here_after) table brought → TalkBrings call.texts held (Rose faults faults_after) table brought)
@@ -220,7 +220,7 @@ module _ (words : List (List ℕ)) (held : Option Held) (faults faults_after : �
   fault_said fault cause silent behind (inl (said, appended, inr (is, part, rose))) = (said, appended, rw is (fault_unsaid fault said cause silent behind part rose))
   fault_said fault cause silent behind (inr wanting) = memory_said (inl silent) wanting
 
--- nothing was heard where a conversation doesn't start or memory was wanting, and no more said than the first few texts
+-- nothing was heard where a conversation doesn't start or memory ran out, and no more said than the first few texts
 pub unopened : (words : List (List ℕ)) (held : Option Held) (faults faults_after : ℕ) (talk_rose : Type 0) (before after : Told) (looks_before looks_after : ℕ) (stop : Stop) → TalkWorks words held faults faults_after talk_rose before after looks_before looks_after (Err stop) → IsUnopened words held before after looks_before looks_after
 unopened words held faults faults_after talk_rose before after looks_before looks_after (At fault) works = inl works.1
 unopened words held faults faults_after talk_rose before after looks_before looks_after Unwritten works = absurd works

@@ -75,7 +75,7 @@ module _ (said : BookSaid) (read_only : Bool) (held : Option Held) (rose : Type 
     looks = looks;
   }
 
-  -- a line that memory was wanting for
+  -- a line that memory ran out for
   pub forgone : (reading : Reading) (rows : List Row) (after : State) (text : List ℕ) (down : Bool) (looks_before looks_after : ℕ)
       → is_own (text_read state.heard bytes) ≡ false → IsReading (text_read state.heard bytes) reading → ((rows ≡ []) ⊎ BringsBy held rose (appended_at said.catalog reading) (Ok rows))
       → after ≡ state.session → text ≡ forgone_text → down ≡ true → looks_after ≤ looks_before + (line_told said state.session (state.heard + 1) rows reading).looks
@@ -90,7 +90,7 @@ module _ (said : BookSaid) (read_only : Bool) (held : Option Held) (rose : Type 
     looks = looks;
   }
 
-  -- an own line that is answered, and one that memory was wanting for
+  -- an own line that is answered, and one that memory ran out for
   pub owned : (own : OwnReading) (after : State) (text : List ℕ) (down : Bool) (looks_before looks_after : ℕ)
       → length bytes ≤ line_limit → is_own (text_read state.heard bytes) ≡ true → IsOwnReading (text_read state.heard bytes) own
       → after ≡ own_after said state.session own → text ≡ (own_told said state.session (state.heard + 1) own).text → down ≡ is_down (own_told said state.session (state.heard + 1) own)
@@ -120,7 +120,7 @@ module _ (said : BookSaid) (read_only : Bool) (held : Option Held) (rose : Type 
     looks = looks;
   }
 
-  -- a line that memory was wanting for before any look was made, whatever it says
+  -- a line that memory ran out for before any look was made, whatever it says
   pub forgone_before : (after : State) (text : List ℕ) (down : Bool) (looks_before looks_after : ℕ)
       → after ≡ state.session → text ≡ forgone_text → down ≡ true → looks_after ≡ looks_before
       → AnswersLine said read_only held rose state bytes after text down looks_before looks_after

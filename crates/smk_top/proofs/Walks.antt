@@ -128,7 +128,7 @@ all_told catalog state added texts behind script done said cut reads all =
     let more = rest_said texts behind done said reads (subst (λ (l : List (List ℕ)). AreReadings l said) cut all) in
     (lines_told catalog (state_through catalog state added done) (1 + length done) (left_through catalog added done) more.0, ap (lines_told catalog state 1 added) more.1 ∙ told_append catalog state added 1 (1 + length done) done more.0 refl)
 
--- memory is wanting behind these lines
+-- memory runs out behind these lines
 pub walk_wants : (catalog : BookSaid) (state now : State) (added rest : List (List Row)) (script : List ℕ) (from number : ℕ) (a b : Option (List ℕ)) (first looks : ℕ) → IsWalked catalog state added script from number a b now rest first looks
     → (said : List Reading) → AreReadings (lines script) said
     → AppendsPart a b (lines_told catalog state 1 added said).text × (looks ≤ first + (lines_told catalog state 1 added said).looks)
