@@ -1,5 +1,5 @@
 -- Rows numbered part by part, before equal keys of different parts have one number.
-use Rattle.std.specs.Prelude.{◌≡◌, ℕ, ◌<◌, ◌≤◌, ◌+◌, List, [], ◌∷◌, ◌++◌, length, map, slice_index, slice_range, sum_by}
+use Rattle.std.specs.Prelude.{◌≡◌, ℕ, ◌<◌, ◌≤◌, List, length, map, slice_index, slice_range}
 use Rattle.smk_keys.specs.Classes.{ClassesImage, classes_of}
 use Rattle.smk_model.specs.{Values.Row, Plain.key_of, Lineage.row_at}
 
@@ -16,12 +16,3 @@ pub record StandFor (keys : List Row) (n : ℕ) (firsts of : List ℕ) : Type 0 
   pub at : (k : ℕ) → k < length firsts → slice_index of (slice_index firsts k) ≡ k
   pub first : (k i : ℕ) → k < length firsts → i < slice_index firsts k → slice_index of i < k
   pub same : (i : ℕ) → i < n → row_at keys (slice_index firsts (slice_index of i)) ≡ row_at keys i
-
--- how many keys these parts have
-abbrev pub key_total : List ClassesImage → ℕ
-key_total = sum_by (λ part. length part.firsts)
-
--- the numbers of the rows of these parts, one part after the other: each class, plus the first number and the keys of the parts before it
-abbrev pub numbers_from : ℕ → List ClassesImage → List ℕ
-numbers_from base [] = []
-numbers_from base (part ∷ parts) = map (λ x. base + x) part.of ++ numbers_from (base + length part.firsts) parts

@@ -9,3 +9,4 @@ pub mod Rowed
 pub mod Tabled
 pub mod Worded
 pub mod Ordered
+pub mod PartNumbers

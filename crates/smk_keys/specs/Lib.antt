@@ -1,4 +1,5 @@
 pub mod Classes
+pub mod Joined
 pub mod Keys
 pub mod Numbers
 pub mod Orders

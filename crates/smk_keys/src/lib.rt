@@ -6,9 +6,11 @@ mod classes;
 mod columns;
 mod hashed;
 mod ints;
+mod joining;
 mod number_pairs;
 mod numbers;
 mod table;
 
 pub use classes::Classes;
+pub use joining::joined;
 pub use table::KeyTable;

@@ -1,18 +1,18 @@
 //! Groupings: the group of each row by its key.
 
-ghost use Rattle.std.specs.Prelude.{◌≡◌, ◌<◌, ◌≤◌, ◌+◌, ◌++◌, IfOk, OnOk, All, length, map, slice_index};
-ghost use Rattle.smk_base.specs.{declared.rel.TheConstants.{COLUMN_LIMIT, ROW_LIMIT}, declared.workers.TheConstants.WORKER_LIMIT};
+ghost use Rattle.std.specs.Prelude.{◌≡◌, ◌<◌, ◌≤◌, ◌+◌, ◌++◌, IfOk, OnOk, All, length, map};
+ghost use Rattle.smk_base.specs.{declared.rel.TheConstants.COLUMN_LIMIT, declared.workers.TheConstants.WORKER_LIMIT};
 ghost use Rattle.smk_model.specs.Plain.{key_of};
-ghost use Rattle.smk_keys.specs.Classes.{classes_of};
+ghost use Rattle.smk_keys.specs.{Classes.classes_of, Joined.{key_total, numbers_from}};
 ghost use Rattle.smk_jobs.specs.Cuts.{AreParts, cut_at};
-ghost use Rattle.smk_body.specs.Renumbered.{HasKeys, StandFor, key_total, numbers_from};
+ghost use Rattle.smk_body.specs.Renumbered.{HasKeys, StandFor};
 
 use crate::find::by_text::{is_text_key, text_classes};
 use crate::find::classes::row_classes;
 use crate::find::stretches::in_stretches;
 use smk_base::Rel;
 use smk_jobs::{Crew, Work, cut_place};
-use smk_keys::Classes;
+use smk_keys::{Classes, joined};
 use std::alloc::{AllocError, Global};
 use std::marker::Sync;
 use std::thread::Threads;
@@ -70,9 +70,8 @@ fn all_classes<R: Threads + Sync, C: Crew + Sync>(
     let picked = rel.pick_columns(work.alloc, keys)?;
     let first_keys = picked.gather(work.alloc, places.as_slice())?;
     let classes = row_classes(work.alloc, &first_keys)?;
-    let of = renumbered(work.alloc, parts, classes.of(), rows)?;
-    let firsts = taken_at(work.alloc, places.as_slice(), classes.firsts())?;
-    Ok(Classes::of_parts(of, firsts))
+    let all = joined(work.alloc, parts, places.as_slice(), &classes, rows)?;
+    Ok(all)
 }
 
 // The place of the first row of each key of each part, one part after the other.
@@ -107,52 +106,4 @@ fn push_moved(numbers: &mut Vec<u32>, by: u32, more: &[u32]) -> Result<(), Alloc
         numbers.push(by + *number)?;
     }
     Ok(())
-}
-
-// For each row of these parts the entry that a table has for its key, whose keys are numbered one part after the other.
-fn renumbered(
-    alloc: Global,
-    parts: &[Classes],
-    table: &[u32],
-    rows: usize,
-) -> Result<Vec<u32>, AllocError>
-    requires few { key_total parts.now ≤ ROW_LIMIT }
-    requires within { All (λ number. number < length table.now) (numbers_from 0 parts.now) }
-    ensures { IfOk result (λ of. of.items ≡ map (slice_index table.now) (numbers_from 0 parts.now)) }
-{
-    let mut of = Vec::with_capacity(alloc, rows)?;
-    let mut from = 0;
-    for part in parts {
-        push_entries(&mut of, table, from, part.of())?;
-        from += part.firsts().len() as u32;
-    }
-    Ok(of)
-}
-
-// Appends the entry that a table has for each of these classes, numbered from one number on.
-fn push_entries(
-    of: &mut Vec<u32>,
-    table: &[u32],
-    from: u32,
-    classes: &[u32],
-) -> Result<(), AllocError>
-    requires { All (λ class. from + class < length table.now) classes.now }
-    ensures { OnOk result (of.new.items ≡ of.old.items ++ map (λ class. slice_index table.now (from + class)) classes.now) }
-{
-    for class in classes {
-        of.push(table[from as usize + *class as usize])?;
-    }
-    Ok(())
-}
-
-// The numbers at these places.
-fn taken_at(alloc: Global, numbers: &[u32], places: &[u32]) -> Result<Vec<u32>, AllocError>
-    requires { All (λ place. place < length numbers.now) places.now }
-    ensures { IfOk result (λ taken. taken.items ≡ map (slice_index numbers.now) places.now) }
-{
-    let mut taken = Vec::with_capacity(alloc, places.len())?;
-    for place in places {
-        taken.push(numbers[*place as usize])?;
-    }
-    Ok(taken)
 }

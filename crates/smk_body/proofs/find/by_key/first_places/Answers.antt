@@ -1,6 +1,7 @@
 use Rattle.std.proofs.{Common.{◌≡◌, ap, length, map, subst, arith, take}, lemmas.List.take_all, lemmas.Grind.common_steps}
 use Rattle.smk_model.specs.Plain.{key_of}
-use Rattle.smk_body.specs.Renumbered.{StandFor, numbers_from}
+use Rattle.smk_keys.specs.Joined.{numbers_from}
+use Rattle.smk_body.specs.Renumbered.{StandFor}
 use Rattle.smk_jobs.proofs.Cutting.{cut_end}
 use Rattle.smk_body.proofs.Renumbering.{next_keys, next_numbers, places_fit}
 use Rattle.smk_body.proofs.find.by_key.first_places.Goals as goal

@@ -1,7 +1,8 @@
 use Rattle.std.proofs.Common.{◌≡◌, length, map, take}
 use Rattle.smk_model.specs.Plain.{key_of}
 use Rattle.smk_jobs.specs.Cuts.{cut_at}
-use Rattle.smk_body.specs.Renumbered.{StandFor, key_total, numbers_from}
+use Rattle.smk_keys.specs.Joined.{key_total, numbers_from}
+use Rattle.smk_body.specs.Renumbered.{StandFor}
 use Rattle.smk_body.proofs.find.by_key.first_places.Given as goal
 
 -- the parts so far are numbered up to where the next one begins

@@ -1,6 +1,6 @@
 use Rattle.std.proofs.Common.{◌≡◌, map, take, get_or}
-use Rattle.smk_body.specs.Renumbered.{key_total, numbers_from}
-use Rattle.smk_body.proofs.find.by_key.renumbered.Given as goal
+use Rattle.smk_keys.specs.Joined.{key_total, numbers_from}
+use Rattle.smk_keys.proofs.joining.renumbered.Given as goal
 
 -- the parts so far have their entries
 abbrev pub invariant-loop-part : goal.invariant-loop-part

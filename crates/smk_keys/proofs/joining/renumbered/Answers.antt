@@ -1,6 +1,6 @@
 use Rattle.std.proofs.Common.{◌∙◌, ◌+◌, ◌++◌, length, map, get_or, ap}
-use Rattle.smk_body.proofs.Renumbering.{entries_more, keys_more, moved_within}
-use Rattle.smk_body.proofs.find.by_key.renumbered.Goals as goal
+use Rattle.smk_keys.proofs.PartNumbers.{entries_more, keys_more, moved_within}
+use Rattle.smk_keys.proofs.joining.renumbered.Goals as goal
 
 pub push_entries-requires : goal.push_entries-requires
 push_entries-requires c =

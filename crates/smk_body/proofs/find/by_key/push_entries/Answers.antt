@@ -1,8 +1,0 @@
-use Rattle.std.proofs.{Common.arith, lemmas.Grind.common_steps}
-use Rattle.smk_body.proofs.find.by_key.push_entries.Goals as goal
-
-pub loop-class-preserved : goal.loop-class-preserved
-loop-class-preserved c = grind (arith, common_steps)
-
-pub returns : goal.returns
-returns c = grind (arith, common_steps)
