@@ -53,9 +53,7 @@ fn table_places(
     ensures long { IfOk result (λ places. length places.items ≡ length lefts.now) }
     ensures at { IfOk result (λ places. (k : ℕ) → k < length lefts.now → slice_index places.items k ≡ slice_index lefts.now k * width + slice_index rights.now k) }
 {
-    let mut places = Vec::with_capacity(alloc, lefts.len())?;
-    for i in 0..lefts.len() {
-        places.push_reserved(lefts[i] * width + rights[i]);
-    }
-    Ok(places)
+    (0..lefts.len())
+        .map(|i| lefts[i] * width + rights[i])
+        .collect(alloc)
 }
