@@ -50,11 +50,8 @@ pub(crate) fn items_among(alloc: Global, items: &[Item], cols: &[u32]) -> Result
     requires { length cols.now ≤ 32 }
     ensures { IfOk result (λ made. made ≡ map (item_among cols.now) items.now) }
 {
-    let mut made = Items::new(alloc);
-    for item in items {
-        made.push(one_item_among(*item, cols))?;
-    }
-    Ok(made)
+    let made = items.iter().map(|item| one_item_among(*item, cols));
+    Ok(Items::from_vec(made.collect(alloc)?))
 }
 
 /// Keys over these columns alone.
@@ -62,11 +59,8 @@ pub(crate) fn keys_among(alloc: Global, keys: &[u32], cols: &[u32]) -> Result<Ke
     requires { length cols.now ≤ 32 }
     ensures { IfOk result (λ made. made ≡ map (place_of cols.now) keys.now) }
 {
-    let mut made = Keys::new(alloc);
-    for key in keys {
-        made.push(place_among(cols, *key))?;
-    }
-    Ok(made)
+    let made = keys.iter().map(|key| place_among(cols, *key));
+    Ok(Keys::from_vec(made.collect(alloc)?))
 }
 
 /// Aggregates over these columns alone.
@@ -74,12 +68,9 @@ pub(crate) fn aggs_among(alloc: Global, aggs: &[Agg], cols: &[u32]) -> Result<Ag
     requires { length cols.now ≤ 32 }
     ensures { IfOk result (λ made. made ≡ map (agg_among cols.now) aggs.now) }
 {
-    let mut made = Aggs::new(alloc);
-    for agg in aggs {
-        // One that reads no column stays what it is over any.
-        made.push(agg.over(place_among(cols, agg.column().unwrap_or(0))))?;
-    }
-    Ok(made)
+    // One that reads no column stays what it is over any.
+    let made = aggs.iter().map(|agg| agg.over(place_among(cols, agg.column().unwrap_or(0))));
+    Ok(Aggs::from_vec(made.collect(alloc)?))
 }
 
 fn one_item_among(item: Item, cols: &[u32]) -> Item
@@ -162,11 +153,8 @@ pub(crate) fn pairs_among(
     requires right { length rights.now ≤ 32 }
     ensures { IfOk result (λ made. made ≡ map (pair_among lefts.now rights.now) pairs.now) }
 {
-    let mut made = Pairs::new(alloc);
-    for pair in pairs {
-        made.push((place_among(lefts, pair.0), place_among(rights, pair.1)))?;
-    }
-    Ok(made)
+    let made = pairs.iter().map(|pair| (place_among(lefts, pair.0), place_among(rights, pair.1)));
+    Ok(Pairs::from_vec(made.collect(alloc)?))
 }
 
 /// Whether a predicate reads a column.

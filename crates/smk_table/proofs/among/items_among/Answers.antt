@@ -1,5 +1,6 @@
-use Rattle.std.proofs.{Common.arith, lemmas.Grind.common_steps}
+use Rattle.std.proofs.{Common.{rules, ◌∙◌}, lemmas.Iterator.{YieldsList-from_map, YieldsList-from_slice, items_from_collect}, lemmas.Result.IfOk-at_ok}
+use Rattle.smk_table.specs.Named.{item_among}
 use Rattle.smk_table.proofs.among.items_among.Goals as goal
 
-pub loop-item-preserved : goal.loop-item-preserved
-loop-item-preserved c = grind (arith, common_steps)
+pub returns : goal.returns
+returns c = c.from_vec.ensures ∙ IfOk-at_ok _ c.in_ok-collect.was (items_from_collect _ c.collect.ensures.ran (YieldsList-from_map _ (item_among c.args.cols.now) (YieldsList-from_slice c.args.items.now cc) c.map-made.ensures.closure (λ x r q k. search rules)))
