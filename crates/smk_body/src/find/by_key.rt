@@ -102,8 +102,5 @@ fn push_moved(numbers: &mut Vec<u32>, by: u32, more: &[u32]) -> Result<(), Alloc
     requires { All (λ number. by + number < 4294967296) more.now }
     ensures { OnOk result (numbers.new.items ≡ numbers.old.items ++ map (λ number. by + number) more.now) }
 {
-    for number in more {
-        numbers.push(by + *number)?;
-    }
-    Ok(())
+    numbers.extend(more.iter().map(|number| by + *number))
 }

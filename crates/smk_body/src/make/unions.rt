@@ -91,11 +91,7 @@ fn lowered(alloc: Global, places: &[u32], by: u32) -> Result<Vec<u32>, AllocErro
     requires { All (λ i. by ≤ i) places.now }
     ensures { IfOk result (λ v. v.items ≡ map (λ i. i - by) places.now) }
 {
-    let mut made = Vec::with_capacity(alloc, places.len())?;
-    for i in places {
-        made.push(*i - by)?;
-    }
-    Ok(made)
+    places.iter().map(|i| *i - by).collect(alloc)
 }
 
 // The wider kind in each place.
