@@ -1,10 +1,7 @@
 -- Columns made one after the other.
-use Rattle.std.proofs.{Common.{◌≡◌, ◌≢◌, ℕ, ◌+◌, ◌<◌, ◌∙◌, List, [], ◌∷◌, ◌++◌, length, get_or, set, refl, arith, inl, inr}, lemmas.Bool.{cases_eq, cases_lt}, lemmas.List.{length_push, length-set, get_or_push, get_or_append_left, get_or_read, get_or-set_same, get_or-set_other}, lemmas.List.Elements.{All-push, All-nil, All-set}}
+use Rattle.std.proofs.{Common.{◌≡◌, ◌≢◌, ℕ, ◌+◌, ◌<◌, ◌∙◌, List, [], ◌∷◌, ◌++◌, length, get_or, set, arith, inl, inr, Result, Ok, Err, IfOk}, lemmas.Bool.{cases_eq, cases_lt}, lemmas.List.{length_push, length-set, get_or_push, get_or_append_left, get_or_read, get_or-set_same, get_or-set_other}, lemmas.List.Elements.{All-from_get_or, All-push, All-set}}
 use Rattle.smk_base.specs.{declared.value.Kind.Kind, declared.value.Value.Value, Images.ColumnImage, Columns.IsColumnOf, Relations.{column_in, AreMade}}
 use Rattle.smk_base.proofs.Kept.{IsColumnOf-same}
-
-pub AreMade_none : (count : ℕ) (kind : ℕ → Kind) (cells : ℕ → List Value) → AreMade count 0 kind cells []
-AreMade_none count kind cells = record { long = refl; kinds = λ k h. absurd (omega arith); cells = λ k h. absurd (omega arith); each = All-nil (IsColumnOf count) }
 
 -- one more column
 pub AreMade_push : (count n : ℕ) (kind : ℕ → Kind) (cells : ℕ → List Value) (made : List ColumnImage) (column : ColumnImage)
@@ -50,4 +47,16 @@ AreMade-through count m n kind cells old made so now = record {
   kinds = λ k h. (let low : k < length old = omega (arith, h, so.long) in now.kinds k low ∙ so.kinds k h);
   cells = λ k h. (let low : k < length old = omega (arith, h, so.long) in now.cells k low ∙ so.cells k h);
   each = now.each;
+}
+
+-- columns that were made each by itself
+pub AreMade-each : {V E : Type 0} (r : Result V E) (items : V → List ColumnImage) (count n : ℕ) (kind : ℕ → Kind) (cells : ℕ → List Value) → IfOk r (λ made. length (items made) ≡ n)
+    → IfOk r (λ made. (k : ℕ) (d : ColumnImage) → k < n → ((get_or (items made) k d).kind ≡ kind k) × ((get_or (items made) k d).cells ≡ cells k) × IsColumnOf count (get_or (items made) k d))
+    → IfOk r (λ made. AreMade count n kind cells (items made))
+AreMade-each (Err e) items count n kind cells long each = tt
+AreMade-each (Ok made) items count n kind cells long each = record {
+  long = long;
+  kinds = λ k h. (each k _ h).0;
+  cells = λ k h. (each k _ h).1;
+  each = All-from_get_or (IsColumnOf count) (items made) (column_in [] 0) (λ k h. (each k _ (omega (arith, long))).2);
 }

@@ -1,5 +1,5 @@
 //! Loops over the columns of a relation.
-ghost use Rattle.std.specs.Prelude.{◌≡◌, ℕ, ◌<◌, ◌≤◌, ◌+◌, true, [], ◌∷◌, ◌++◌, length, map, take, All, IfOk, OnOk, OnErr, slice_index, slice_index_or};
+ghost use Rattle.std.specs.Prelude.{◌≡◌, ℕ, ◌<◌, ◌≤◌, ◌+◌, true, [], ◌∷◌, ◌++◌, length, map, take, All, IfOk, OnOk, OnErr, Ok, slice_index, slice_index_or};
 ghost use Rattle.smk_base.specs.{Cells.{value_of_cell, cell_in}, Rels.{IsColumn, IsWider, Fits, kind_in, value_in}, Columns.{IsColumnOf, IsReady}, Relations.{column_in, AreMade, AreLonger}};
 
 use crate::rel::ROW_LIMIT;
@@ -18,11 +18,14 @@ pub(crate) fn begun_columns(
     requires { All IsColumn kinds.now }
     ensures { IfOk result (λ made. AreMade 0 (length kinds.now) (kind_in kinds.now) (λ k. []) made.items) }
 {
-    let mut made = Vec::with_capacity(alloc, kinds.len())?;
-    for kind in kinds {
-        made.push_reserved(ValueColumn::seeded(alloc, *kind, seed));
-    }
-    Ok(made)
+    made_each(
+        alloc,
+        kinds.len(),
+        &|k: usize| -> Result<ValueColumn, AllocError>
+            requires { (k < length kinds.now) × IsColumn (kind_in kinds.now k) }
+            ensures { IfOk result (λ made. (made.kind ≡ kind_in kinds.entry.now k) × (made.cells ≡ []) × IsColumnOf 0 made) }
+        { Ok(ValueColumn::seeded(alloc, kinds[k], seed)) },
+    )
 }
 
 /// The columns, each of which its values lie with alone.
@@ -87,11 +90,14 @@ pub(crate) fn gather_each(
     requires few { length places.now ≤ ROW_LIMIT }
     ensures { IfOk result (λ made. AreMade (length places.now) (length columns.now) (λ k. (column_in columns.now k).kind) (λ k. map (value_in (column_in columns.now k).cells) places.now) made.items) }
 {
-    let mut made = Vec::with_capacity(alloc, columns.len())?;
-    for column in columns {
-        made.push_reserved(column.gather(alloc, places)?);
-    }
-    Ok(made)
+    made_each(
+        alloc,
+        columns.len(),
+        &|c: usize| -> Result<RelColumn, AllocError>
+            requires { (c < length columns.now) × All (λ place. place < length (column_in columns.now c).cells) places.now × (length places.now ≤ ROW_LIMIT) }
+            ensures { IfOk result (λ made. (made.kind ≡ (column_in columns.entry.now c).kind) × (made.cells ≡ map (value_in (column_in columns.entry.now c).cells) places.entry.now) × IsColumnOf (length places.entry.now) made) }
+        { columns[c].gather(alloc, places) },
+    )
 }
 
 /// Copies of the columns.
@@ -103,11 +109,14 @@ pub(crate) fn copy_each(
     requires { All (IsColumnOf count) columns.now }
     ensures { IfOk result (λ made. AreMade count (length columns.now) (λ k. (column_in columns.now k).kind) (λ k. (column_in columns.now k).cells) made.items) }
 {
-    let mut made = Vec::with_capacity(alloc, columns.len())?;
-    for column in columns {
-        made.push_reserved(column.copy(alloc)?);
-    }
-    Ok(made)
+    made_each(
+        alloc,
+        columns.len(),
+        &|c: usize| -> Result<RelColumn, AllocError>
+            requires { c < length columns.now }
+            ensures { IfOk result (λ made. (made.kind ≡ (column_in columns.entry.now c).kind) × (made.cells ≡ (column_in columns.entry.now c).cells)) }
+        { columns[c].copy(alloc) },
+    )
 }
 
 /// Lets copies share the values of each column.
@@ -136,11 +145,14 @@ pub(crate) fn pick_each(
     requires within { All (λ c. c < length columns.now) cols.now }
     ensures { IfOk result (λ made. AreMade count (length cols.now) (λ k. (column_in columns.now (slice_index cols.now k)).kind) (λ k. (column_in columns.now (slice_index cols.now k)).cells) made.items) }
 {
-    let mut made = Vec::with_capacity(alloc, cols.len())?;
-    for c in cols {
-        made.push_reserved(columns[*c as usize].copy(alloc)?);
-    }
-    Ok(made)
+    made_each(
+        alloc,
+        cols.len(),
+        &|k: usize| -> Result<RelColumn, AllocError>
+            requires { (k < length cols.now) × (slice_index cols.now k < length columns.now) }
+            ensures { IfOk result (λ made. (made.kind ≡ (column_in columns.entry.now (slice_index cols.entry.now k)).kind) × (made.cells ≡ (column_in columns.entry.now (slice_index cols.entry.now k)).cells)) }
+        { columns[cols[k] as usize].copy(alloc) },
+    )
 }
 
 /// Puts the rows of other columns last. After an error the first columns may have them.
@@ -209,6 +221,23 @@ pub(crate) fn each_with_kind(
     for c in 0..kinds.len() {
         let column = mem::replace(&mut columns[c], RelColumn::new(alloc, Kind::Text));
         made.push_reserved(column.with_kind(alloc, kinds[c])?);
+    }
+    Ok(made)
+}
+
+/// What a call makes of each number below n, in order.
+pub(crate) fn made_each<T: Drop, F: Fn(usize) -> Result<T, AllocError>>(
+    alloc: Global,
+    n: usize,
+    make: &F,
+) -> Result<Vec<T>, AllocError>
+    requires { (k : ℕ) → k < n → F.pre make.now k }
+    ensures long { IfOk result (λ made. length made.items ≡ n) }
+    ensures each { IfOk result (λ made. (k : ℕ) (d : T) → k < n → F.post make.now k (Ok (slice_index_or made.items k d))) }
+{
+    let mut made = Vec::with_capacity(alloc, n)?;
+    for k in 0..n {
+        made.push_reserved(make(k)?);
     }
     Ok(made)
 }
