@@ -262,10 +262,7 @@ impl ValueColumn {
         ensures cells { IfOk result (λ made. made.cells ≡ map values.Int (map pos counts.now)) }
         ensures keeps { IfOk result (λ made. IsColumnOf (length counts.now) made) }
     {
-        let mut ints = Vec::with_capacity(alloc, counts.len())?;
-        for count in counts {
-            ints.push_reserved(i64::from(*count));
-        }
+        let ints: Vec<i64> = counts.iter().map(|count| i64::from(*count)).collect(alloc)?;
         let small = ValueColumn {
             store: Store::Small(ints),
         };
