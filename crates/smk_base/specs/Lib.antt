@@ -25,3 +25,4 @@ pub mod Relations
 pub mod Builders
 pub mod IntColumns
 pub mod Needs
+pub mod Changed

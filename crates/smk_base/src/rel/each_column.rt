@@ -1,6 +1,6 @@
 //! Loops over the columns of a relation.
 ghost use Rattle.std.specs.Prelude.{◌≡◌, ℕ, ◌<◌, ◌≤◌, ◌+◌, true, [], ◌∷◌, ◌++◌, length, map, take, All, IfOk, OnOk, OnErr, Ok, slice_index, slice_index_or};
-ghost use Rattle.smk_base.specs.{Cells.{value_of_cell, cell_in}, Rels.{IsColumn, IsWider, Fits, kind_in, value_in}, Columns.{IsColumnOf, IsReady}, Relations.{column_in, AreMade, AreLonger}};
+ghost use Rattle.smk_base.specs.{Cells.{value_of_cell, cell_in}, Rels.{IsColumn, IsWider, Fits, kind_in, value_in}, Columns.{IsColumnOf, IsReady}, Relations.{column_in, AreMade, AreLonger}, Changed.{TakesAt, LeavesAt, MayLeaveAt}};
 
 use crate::rel::ROW_LIMIT;
 use crate::rel::rel_column::RelColumn;
@@ -31,18 +31,19 @@ pub(crate) fn begun_columns(
 /// The columns, each of which its values lie with alone.
 pub(crate) fn owned_each(
     alloc: Global,
-    mut columns: Vec<ValueColumn>,
+    columns: Vec<ValueColumn>,
     count: u32,
 ) -> Result<Vec<RelColumn>, AllocError>
     requires { All (IsColumnOf count) columns.items }
     ensures { IfOk result (λ made. AreMade count (length columns.items) (λ k. (column_in columns.items k).kind) (λ k. (column_in columns.items k).cells) made.items) }
 {
-    let mut made = Vec::with_capacity(alloc, columns.len())?;
-    for c in 0..columns.len() {
-        let column = mem::replace(&mut columns[c], ValueColumn::new(alloc, Kind::Text));
-        made.push_reserved(RelColumn::own(column));
-    }
-    Ok(made)
+    columns
+        .into_iter()
+        .map(|column: ValueColumn| -> RelColumn
+            requires { IsColumnOf (length column.cells) column }
+            ensures { result ≡ column }
+        { RelColumn::own(column) })
+        .collect(alloc)
 }
 
 /// Makes all the room that a row needs to go last.
@@ -58,10 +59,13 @@ pub(crate) fn make_each_ready(
     ensures ready { OnOk result ((k : ℕ) → k < length columns.old.items → IsReady (column_in columns.new.items k) (value_of_cell (cell_in cells.now k))) }
 {
     let alloc = *columns.allocator();
-    for c in 0..columns.len() {
-        columns[c].make_ready(alloc, cells[c])?;
-    }
-    Ok(())
+    change_each(
+        columns,
+        &|c: usize, column: &mut RelColumn| -> Result<(), AllocError>
+            requires { (c < length cells.now) × Fits column.old.kind (value_of_cell (cell_in cells.now c)) }
+            ensures { (column.new.kind ≡ column.old.kind) × (column.new.cells ≡ column.old.cells) × OnOk result (IsReady column.new (value_of_cell (cell_in cells.entry.now c))) }
+        { column.make_ready(alloc, cells[c]) },
+    )
 }
 
 /// Puts a row last that is ready to go there.
@@ -73,9 +77,13 @@ pub(crate) fn push_each(columns: &mut Vec<RelColumn>, cells: &[CellRef], count: 
     requires ready { (k : ℕ) → k < length columns.old.items → IsReady (column_in columns.old.items k) (value_of_cell (cell_in cells.now k)) }
     ensures { AreMade (count + 1) (length columns.old.items) (λ k. (column_in columns.old.items k).kind) (λ k. (column_in columns.old.items k).cells ++ value_of_cell (cell_in cells.now k) ∷ []) columns.new.items }
 {
-    for c in 0..columns.len() {
-        columns[c].push(cells[c]);
-    }
+    change_all(
+        columns,
+        &|c: usize, column: &mut RelColumn|
+            requires { (c < length cells.now) × (length column.old.cells < ROW_LIMIT) × Fits column.old.kind (value_of_cell (cell_in cells.now c)) × IsReady column.old (value_of_cell (cell_in cells.now c)) }
+            ensures { (column.new.kind ≡ column.old.kind) × (column.new.cells ≡ column.old.cells ++ value_of_cell (cell_in cells.entry.now c) ∷ []) × IsColumnOf (length column.old.cells + 1) column.new }
+        { column.push(cells[c]) },
+    )
 }
 
 /// The rows at these places, in this order.
@@ -128,10 +136,12 @@ pub(crate) fn share_each(
     requires { All (IsColumnOf count) columns.old.items }
     ensures { AreMade count (length columns.old.items) (λ k. (column_in columns.old.items k).kind) (λ k. (column_in columns.old.items k).cells) columns.new.items }
 {
-    for c in 0..columns.len() {
-        columns[c].share(alloc)?;
-    }
-    Ok(())
+    change_each(
+        columns,
+        &|_: usize, column: &mut RelColumn| -> Result<(), AllocError>
+            ensures { (column.new.kind ≡ column.old.kind) × (column.new.cells ≡ column.old.cells) }
+        { column.share(alloc) },
+    )
 }
 
 /// Copies of these columns, in this order.
@@ -171,10 +181,13 @@ pub(crate) fn append_each(
     ensures appended { OnOk result (AreMade (count + more) (length columns.old.items) (λ k. (column_in columns.old.items k).kind) (λ k. (column_in columns.old.items k).cells ++ (column_in others.now k).cells) columns.new.items) }
     ensures longer { OnErr result (AreLonger count columns.old.items columns.new.items) }
 {
-    for c in 0..columns.len() {
-        columns[c].append(alloc, &others[c])?;
-    }
-    Ok(())
+    change_each(
+        columns,
+        &|c: usize, column: &mut RelColumn| -> Result<(), AllocError>
+            requires { (c < length others.now) × (length column.old.cells + length (column_in others.now c).cells ≤ ROW_LIMIT) × IsWider column.old.kind (column_in others.now c).kind }
+            ensures { (column.new.kind ≡ column.old.kind) × OnOk result ((column.new.own ≡ true) × (column.new.cells ≡ column.old.cells ++ (column_in others.entry.now c).cells) × IsColumnOf (length column.old.cells + length (column_in others.entry.now c).cells) column.new) × OnErr result (column.new.cells ≡ column.old.cells) }
+        { column.append(alloc, &others[c]) },
+    )
 }
 
 /// Lets the values of each column lie with it alone: it copies those that others hold too.
@@ -187,10 +200,12 @@ pub(crate) fn own_each(
     ensures same { AreMade count (length columns.old.items) (λ k. (column_in columns.old.items k).kind) (λ k. (column_in columns.old.items k).cells) columns.new.items }
     ensures own { OnOk result ((k : ℕ) → k < length columns.old.items → (column_in columns.new.items k).own ≡ true) }
 {
-    for c in 0..columns.len() {
-        columns[c].make_own(alloc)?;
-    }
-    Ok(())
+    change_each(
+        columns,
+        &|_: usize, column: &mut RelColumn| -> Result<(), AllocError>
+            ensures { (column.new.kind ≡ column.old.kind) × (column.new.cells ≡ column.old.cells) × OnOk result (column.new.own ≡ true) }
+        { column.make_own(alloc) },
+    )
 }
 
 /// Keeps the first rows of columns whose values lie with them alone where they have more.
@@ -199,9 +214,13 @@ pub(crate) fn truncate_each(columns: &mut Vec<RelColumn>, count: u32)
     requires own { (k : ℕ) → k < length columns.old.items → count < length (column_in columns.old.items k).cells → (column_in columns.old.items k).own ≡ true }
     ensures { AreMade count (length columns.old.items) (λ k. (column_in columns.old.items k).kind) (λ k. take count (column_in columns.old.items k).cells) columns.new.items }
 {
-    for c in 0..columns.len() {
-        columns[c].truncate(count);
-    }
+    change_all(
+        columns,
+        &|_: usize, column: &mut RelColumn|
+            requires { (count ≤ length column.old.cells) × (count < length column.old.cells → column.old.own ≡ true) }
+            ensures { (column.new.kind ≡ column.old.kind) × (column.new.cells ≡ take count column.old.cells) × IsColumnOf count column.new }
+        { column.truncate(count) },
+    )
 }
 
 /// The same values in columns of these kinds, which they fit.
@@ -217,16 +236,22 @@ pub(crate) fn each_with_kind(
     requires fits { (k : ℕ) → k < length columns.items → All (Fits (kind_in kinds.now k)) (column_in columns.items k).cells }
     ensures { IfOk result (λ made. AreMade count (length columns.items) (kind_in kinds.now) (λ k. (column_in columns.items k).cells) made.items) }
 {
-    let mut made = Vec::with_capacity(alloc, kinds.len())?;
-    for c in 0..kinds.len() {
-        let column = mem::replace(&mut columns[c], RelColumn::new(alloc, Kind::Text));
-        made.push_reserved(column.with_kind(alloc, kinds[c])?);
-    }
-    Ok(made)
+    change_each(
+        &mut columns,
+        &|c: usize, column: &mut RelColumn| -> Result<(), AllocError>
+            requires { (c < length kinds.now) × IsColumn (kind_in kinds.now c) × All (Fits (kind_in kinds.now c)) column.old.cells }
+            ensures { OnOk result ((column.new.kind ≡ kind_in kinds.entry.now c) × (column.new.cells ≡ column.old.cells) × IsColumnOf (length column.old.cells) column.new) }
+        {
+            let was = mem::replace(column, RelColumn::new(alloc, Kind::Text));
+            *column = was.with_kind(alloc, kinds[c])?;
+            Ok(())
+        },
+    )?;
+    Ok(columns)
 }
 
 /// What a call makes of each number below n, in order.
-pub(crate) fn made_each<T: Drop, F: Fn(usize) -> Result<T, AllocError>>(
+fn made_each<T: Drop, F: Fn(usize) -> Result<T, AllocError>>(
     alloc: Global,
     n: usize,
     make: &F,
@@ -240,4 +265,31 @@ pub(crate) fn made_each<T: Drop, F: Fn(usize) -> Result<T, AllocError>>(
         made.push_reserved(make(k)?);
     }
     Ok(made)
+}
+
+/// Changes each column in turn, up to the first call that fails.
+fn change_each<F: Fn(usize, &mut RelColumn) -> Result<(), AllocError>>(
+    columns: &mut Vec<RelColumn>,
+    change: &F,
+) -> Result<(), AllocError>
+    requires { (k : ℕ) → k < length columns.old.items → TakesAt F.Fn change.now k (column_in columns.old.items k) }
+    ensures long { length columns.new.items ≡ length columns.old.items }
+    ensures all { OnOk result ((k : ℕ) → k < length columns.old.items → LeavesAt F.Fn change.now k (column_in columns.old.items k) (Ok tt) (column_in columns.new.items k)) }
+    ensures each { (k : ℕ) → k < length columns.old.items → MayLeaveAt F.Fn change.now k (column_in columns.old.items k) (column_in columns.new.items k) }
+{
+    for c in 0..columns.len() {
+        change(c, &mut columns[c])?;
+    }
+    Ok(())
+}
+
+/// Changes each column in turn.
+fn change_all<F: Fn(usize, &mut RelColumn)>(columns: &mut Vec<RelColumn>, change: &F)
+    requires { (k : ℕ) → k < length columns.old.items → TakesAt F.Fn change.now k (column_in columns.old.items k) }
+    ensures long { length columns.new.items ≡ length columns.old.items }
+    ensures all { (k : ℕ) → k < length columns.old.items → LeavesAt F.Fn change.now k (column_in columns.old.items k) tt (column_in columns.new.items k) }
+{
+    for c in 0..columns.len() {
+        change(c, &mut columns[c]);
+    }
 }

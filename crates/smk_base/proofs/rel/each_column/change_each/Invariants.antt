@@ -1,0 +1,6 @@
+use Rattle.std.proofs.Common.{Ok}
+use Rattle.smk_base.proofs.Made.{IsChanged}
+use Rattle.smk_base.proofs.rel.each_column.change_each.Given as goal
+
+abbrev pub invariant-loop-c : goal.invariant-loop-c
+invariant-loop-c g l = IsChanged g.F.Fn l.change (Ok tt) l.c l.fn.columns.items l.columns.items
