@@ -1,8 +1,7 @@
 -- Columns made, or changed, one after the other.
-use Rattle.std.proofs.{Common.{◌≡◌, ◌≢◌, ℕ, ◌+◌, ◌<◌, ◌≤◌, ◌∙◌, List, [], ◌∷◌, ◌++◌, length, get_or, set, refl, All, arith, inl, inr, Result, Ok, Err, IfOk}, lemmas.Bool.{cases_eq, cases_lt, cases_order}, lemmas.List.{length_push, length-set, get_or_push, get_or_append_left, get_or_read, get_or-set_same, get_or-set_other}, lemmas.List.Elements.{All-from_get_or, All-push, All-set}}
+use Rattle.std.proofs.{Common.{◌≡◌, ◌≢◌, ℕ, ◌+◌, ◌<◌, ◌≤◌, ◌∙◌, List, [], length, get_or, set, refl, arith, inl, inr, Result, Ok, Err, IfOk}, lemmas.Bool.{cases_eq, cases_order}, lemmas.List.{length-set, get_or_read, get_or-set_same, get_or-set_other}, lemmas.List.Elements.{All-from_get_or}}
 use Rattle.std.specs.{Borrow.MutBor, Fn.Shared}
 use Rattle.smk_base.specs.{Changed.{LeavesAt, MayLeaveAt}, declared.value.Kind.Kind, declared.value.Value.Value, Images.ColumnImage, Columns.IsColumnOf, Relations.{column_in, AreMade}}
-use Rattle.smk_base.proofs.Kept.{IsColumnOf-same}
 
 -- columns like those that were made
 pub AreMade-through : (count m n : ℕ) (kind : ℕ → Kind) (cells : ℕ → List Value) (old made : List ColumnImage) → AreMade m n kind cells old

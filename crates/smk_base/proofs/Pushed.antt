@@ -1,6 +1,6 @@
 -- A row that is put into columns value by value.
-use Rattle.std.proofs.{Common.{◌≡◌, ◌≢◌, ℕ, ◌+◌, ◌<◌, ◌≤◌, List, ◌++◌, length, map, set, refl, sym, subst, ◌∙◌, arith, inl, inr, pos, take, ap, true, All, Result, Ok, Err, OnOk, OnErr}, lemmas.Bool.{cases_eq, cases_order}, lemmas.List.{get_or-map, length-map, length-append, take_all, take-append-le, get_or-set_same, get_or-set_other, length-set}, lemmas.List.Elements.All-from_get_or, lemmas.Slice.Zip.AllZip-long}
-use Rattle.smk_base.specs.{declared.value.CellRef.CellRef, declared.value.Kind.Kind, declared.value.Value.Value, Cells.{value_of_cell, cell_in}, Rels.{Fits, RowFits, kind_in, value_in}, Images.ColumnImage, Columns.IsColumnOf, Relations.{column_in, kinds_of, AreMade, AreLonger}}
+use Rattle.std.proofs.{Common.{◌≡◌, ℕ, ◌<◌, List, length, map, sym, subst, ◌∙◌, arith, pos, take}, lemmas.List.{get_or-map, length-map}, lemmas.Slice.Zip.AllZip-long}
+use Rattle.smk_base.specs.{declared.value.CellRef.CellRef, declared.value.Kind.Kind, declared.value.Value.Value, Cells.{value_of_cell, cell_in}, Rels.{Fits, RowFits, kind_in, value_in}, Images.ColumnImage, Relations.{column_in, kinds_of, AreMade, AreLonger}}
 use Rattle.smk_base.specs.declared.value.Kind.TheVariants as kinds
 use Rattle.smk_base.specs.declared.value.Value.TheVariants as values
 use Rattle.smk_base.proofs.RelRows.{AllZip-at}

@@ -39,10 +39,12 @@ pub(crate) fn owned_each(
 {
     columns
         .into_iter()
-        .map(|column: ValueColumn| -> RelColumn
-            requires { IsColumnOf (length column.cells) column }
-            ensures { result ≡ column }
-        { RelColumn::own(column) })
+        .map(
+            |column: ValueColumn| -> RelColumn
+                requires { IsColumnOf (length column.cells) column }
+                ensures { result ≡ column }
+            { RelColumn::own(column) },
+        )
         .collect(alloc)
 }
 
