@@ -1,7 +1,6 @@
 -- Rows that grow value by value.
-use Rattle.std.proofs.{Common.{◌≡◌, ◌≢◌, ℕ, ◌+◌, ◌<◌, ◌≤◌, List, [], ◌∷◌, ◌++◌, length, set, get_or, refl, ap, sym, ◌∙◌, arith, All, inl, inr, pos, None, true}, lemmas.Bool.{cases_eq, cases_lt}, lemmas.List.{length-map, length-set, length_push, get_or-set_same, get_or-set_other, get_or_push, get_or_append_left, get_or_read}, lemmas.List.Elements.All-from_get_or, lemmas.List.FromFn.{length-map-range_with_len, get_or-map-range_with_len, fill_by_all}}
+use Rattle.std.proofs.{Common.{◌≡◌, ◌≢◌, ℕ, ◌+◌, ◌<◌, List, [], ◌∷◌, ◌++◌, length, set, get_or, refl, ap, sym, ◌∙◌, arith, All, inl, inr, pos}, lemmas.Bool.{cases_eq, cases_lt}, lemmas.List.{length-map, length-set, length_push, get_or-set_same, get_or-set_other, get_or_push, get_or_append_left, get_or_read}, lemmas.List.Elements.All-from_get_or, lemmas.List.FromFn.{length-map-range_with_len, get_or-map-range_with_len, fill_by_all}}
 use Rattle.smk_base.specs.{declared.value.Kind.Kind, declared.value.Value.Value, Rels.{kind_in, value_in}, Images.ColumnImage, Columns.IsColumnOf, Relations.{column_in, kinds_of, row_at, rows_of, relation_of, AreMade}, Builders.{RowsBegun, begun_in, rows_begun, AreBegun}}
-use Rattle.smk_base.specs.declared.value.Kind.TheVariants as kinds
 use Rattle.smk_base.specs.declared.value.Value.TheVariants as values
 use Rattle.smk_base.proofs.{Kept.IsColumnOf-same, Pushed.kind_in-kinds_of, Rows.{length-rows_of, row_in-rows_of, value_in-row_at, kinds_is, row_is}, Relating.made-new}
 
@@ -13,15 +12,6 @@ length-begun_in count at columns = length-map-range_with_len (λ c. value_in (co
 
 value_in-begun_in : (count at : ℕ) (columns : List ColumnImage) (c : ℕ) → c < at → value_in (begun_in count at columns) c ≡ value_in (column_in columns c).cells count
 value_in-begun_in count at columns c h = get_or-map-range_with_len (λ c. value_in (column_in columns c).cells count) 0 at c c none h (omega arith)
-
-pub AreBegun-new : (n : ℕ) (kind : ℕ → Kind) (made : List ColumnImage) → n ≤ 16 → AreMade 0 n kind (λ k. []) made → AreBegun 0 0 made
-AreBegun-new n kind made few so = record {
-  few_columns = omega (arith, so.long);
-  few_rows = omega arith;
-  within = omega arith;
-  longer = λ k p. absurd (omega arith);
-  rest = λ k p q. so.each k (record { kind = kinds.Text; cells = []; room = 0; next = None; own = true }) q;
-}
 
 pub rows_begun-new : (ks : List Kind) (made : List ColumnImage) → AreMade 0 (length ks) (kind_in ks) (λ k. []) made → rows_begun 0 0 made ≡ record { kinds = ks; rows = []; begun = [] }
 rows_begun-new ks made so =

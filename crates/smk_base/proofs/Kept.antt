@@ -1,22 +1,13 @@
 -- What the bulk calls keep of a column.
-use Rattle.std.proofs.{Common.{◌≡◌, ◌≢◌, ℕ, zero, suc, ◌+◌, ◌*◌, ◌^◌, ◌/◌, ◌<◌, ◌≤◌, ℤ, pos, negsuc, neg_ℤ, ◌≤ℤ◌, List, [], ◌∷◌, ◌++◌, length, map, get_or, refl, ◌∙◌, arith, All, FitsSigned}, lemmas.Int.ints, Math.Nat.{div-le_self, pow-le-pow_right}, lemmas.List.{get_or-map, length-map, length-append, length_push}, lemmas.List.Elements.{All-append, All-map, All-push, All-weaker, All-tail}}
+use Rattle.std.proofs.{Common.{◌≡◌, ◌≢◌, ℕ, zero, suc, ◌+◌, ◌*◌, ◌^◌, ◌/◌, ◌<◌, ◌≤◌, ℤ, pos, negsuc, neg_ℤ, ◌≤ℤ◌, List, [], ◌∷◌, ◌++◌, length, map, get_or, refl, ◌∙◌, arith, All, FitsSigned}, lemmas.Int.ints, Math.Nat.{div-le_self, pow-le-pow_right}, lemmas.List.{get_or-map, length-map, length-append}, lemmas.List.Elements.{All-append, All-map, All-weaker, All-tail}}
 use Rattle.std.specs.Int.{w64, int_div_euclid}
-use Rattle.smk_base.specs.{declared.value.Kind.Kind, declared.value.Value.Value, Rels.{IsWithin, IsWider, IsColumn, Fits, value_in, bin_of}, Images.ColumnImage, Columns.IsColumnOf}
+use Rattle.smk_base.specs.{declared.value.Kind.Kind, declared.value.Value.Value, Rels.{IsWithin, IsWider, Fits, value_in, bin_of}, Images.ColumnImage, Columns.IsColumnOf}
 use Rattle.smk_base.specs.declared.value.Kind.TheVariants as kinds
 use Rattle.smk_base.specs.declared.value.Value.TheVariants as values
 
 -- a column with the same values
 pub IsColumnOf-same : (n : ℕ) (column now : ColumnImage) → now.kind ≡ column.kind → now.cells ≡ column.cells → IsColumnOf n column → IsColumnOf n now
 IsColumnOf-same n column now kind cells is = record { long = rw cells is.long; few = is.few; low = rw kind is.low; fit = rw (kind, cells) is.fit }
-
--- a column with one more value
-pub IsColumnOf-push : (n : ℕ) (column now : ColumnImage) (v : Value) → now.kind ≡ column.kind → now.cells ≡ column.cells ++ v ∷ [] → Fits column.kind v → n < 1048576 → IsColumnOf n column → IsColumnOf (n + 1) now
-IsColumnOf-push n column now v kind cells fits few is = record {
-  long = rw cells (omega (arith, length_push column.cells v, is.long));
-  few = omega arith;
-  low = rw kind is.low;
-  fit = rw (kind, cells) (All-push (Fits column.kind) column.cells v is.fit fits);
-}
 
 -- the images of the items at these places are the images at these places
 pub map-gather : {A : Type 0} (f : A → Value) (items : List A) (d : A) (places : List ℕ) → All (λ place. place < length (map f items)) places
@@ -86,9 +77,6 @@ IsColumnOf-append column other made n m a b wider kind cells few = record {
   low = rw kind a.low;
   fit = rw (kind, cells) (All-append (Fits column.kind) column.cells other.cells a.fit (All-weaker (Fits other.kind) (Fits column.kind) (λ v h. Fits-wider column.kind other.kind v wider h) other.cells b.fit));
 }
-
-pub IsColumnOf-with_kind : (column made : ColumnImage) (n : ℕ) → IsColumnOf n column → IsColumn made.kind → All (Fits made.kind) column.cells → made.cells ≡ column.cells → IsColumnOf n made
-IsColumnOf-with_kind column made n is low fits cells = record { long = rw cells is.long; few = is.few; low = low; fit = rw cells fits }
 
 pub IsColumnOf-ints : (level : ℕ) (numbers : List ℤ) (made : ColumnImage) → level ≤ 3 → length numbers ≤ 1048576 → All (IsWithin level) numbers → made.kind ≡ kinds.Int level → made.cells ≡ map values.Int numbers
     → IsColumnOf (length numbers) made

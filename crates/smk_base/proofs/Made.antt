@@ -1,5 +1,5 @@
 -- Columns made, or changed, one after the other.
-use Rattle.std.proofs.{Common.{◌≡◌, ◌≢◌, ℕ, ◌+◌, ◌<◌, ◌≤◌, ◌∙◌, List, [], length, get_or, set, refl, arith, inl, inr, Result, Ok, Err, IfOk}, lemmas.Bool.{cases_eq, cases_order}, lemmas.List.{length-set, get_or_read, get_or-set_same, get_or-set_other}, lemmas.List.Elements.{All-from_get_or}}
+use Rattle.std.proofs.{Common.{◌≡◌, ◌≢◌, ℕ, ◌+◌, ◌<◌, ◌≤◌, ◌∙◌, List, [], length, get_or, set, refl, arith, inl, inr, Result, Ok, Err, IfOk}, lemmas.Bool.{cases_eq, cases_order}, lemmas.List.{length-set, get_or_read, get_or-set_same, get_or-set_other}, lemmas.List.Elements.All-from_get_or}
 use Rattle.std.specs.{Borrow.MutBor, Fn.Shared}
 use Rattle.smk_base.specs.{Changed.{LeavesAt, MayLeaveAt}, declared.value.Kind.Kind, declared.value.Value.Value, Images.ColumnImage, Columns.IsColumnOf, Relations.{column_in, AreMade}}
 

@@ -1,5 +1,5 @@
 -- Dictionaries of first occurrences.
-use Rattle.std.proofs.{Common.{◌≡◌, ℕ, suc, ◌+◌, ◌<◌, ◌≤◌, false, List, [], ◌∷◌, ◌++◌, length, map, get_or, refl, Some, ap, sym, subst, ◌∙◌, arith, inl, inr, All, set, replicate, take, drop, max}, lemmas.Map.Keys.{IsDistinct-push, IsDistinct-from_apart}, lemmas.Bool.{cases_Bool, cases_eq, cases_lt}, lemmas.List.{get_or-map, map_push, length_push, length-map, get_or-set_same, get_or-set_other, length-set, get_or-replicate, length-replicate, ext_get_or, take_more, take-map, take-append-drop, length-take, length-take-le, get_or-take, get_or_push}, lemmas.List.Sums.{fold-append, fold_push}, lemmas.List.Elements.{All-push, All-from_get_or}, lemmas.List.Quantifiers.position-Some, lemmas.Option.slice_get-get_or}
+use Rattle.std.proofs.{Common.{◌≡◌, ℕ, suc, ◌+◌, ◌<◌, ◌≤◌, false, List, [], ◌∷◌, ◌++◌, length, map, get_or, refl, Some, ap, sym, subst, ◌∙◌, arith, inl, inr, All, set, take, drop, max}, lemmas.Map.Keys.{IsDistinct-push, IsDistinct-from_apart}, lemmas.Bool.{cases_Bool, cases_eq, cases_lt}, lemmas.List.{get_or-map, map_push, length_push, length-map, get_or-set_same, get_or-set_other, length-set, ext_get_or, take_more, take-map, take-append-drop, length-take, length-take-le, get_or-take, get_or_push}, lemmas.List.Sums.{fold-append, fold_push}, lemmas.List.Elements.{All-push, All-from_get_or}, lemmas.List.Quantifiers.position-Some, lemmas.Option.slice_get-get_or}
 use Rattle.std.specs.{Cmp.decided, Prelude.fold, List.{list_any, slice_get}}
 use Rattle.indexmap.proofs.MapLemmas.{distinct-take}
 use Rattle.smk_base.specs.{Dicts.{text_eq, code_in, code_or_last, with_text, AreTexts}, TextColumns.{text_in, text_firsts, texts_at, AreCodes, AreRecoded}}
@@ -72,25 +72,12 @@ AreTexts-firsts texts = AreTexts-from [] texts AreTexts-none
 pub dict_short : (dict : List (List ℕ)) (codes : List ℕ) → AreCodes dict codes → length dict ≤ length codes
 dict_short dict codes is = omega (arith, few_firsts (texts_at dict codes), ap length is.firsts, length-map codes (text_in dict))
 
-pub few_dict : (dict : List (List ℕ)) (codes : List ℕ) → AreCodes dict codes → length dict ≤ 1048576
-few_dict dict codes is = omega (arith, dict_short dict codes is, is.few)
-
 -- the code of a text that is there is the one that it has
 pub code-is : (dict : List (List ℕ)) (codes : List ℕ) (i d : ℕ) → AreCodes dict codes → i < length codes → get_or codes i d ≡ code_or_last (text_firsts (texts_at dict codes)) (text_in (texts_at dict codes) i)
 code-is dict codes i d is h =
     let at : text_in (texts_at dict codes) i ≡ text_in dict (get_or codes i d) = get_or-map (text_in dict) codes i d [] h in
     let different : AreTexts dict = subst AreTexts (sym is.firsts) (AreTexts-firsts (texts_at dict codes)) in
     rw (at, ← is.firsts) (sym (code-at dict (get_or codes i d) different (is.within i d h)))
-
--- no text has a new code yet
-pub AreRecoded-none : (old new : List (List ℕ)) (table : List ℕ) (n : ℕ) → n ≡ length old → table ≡ replicate n 4294967295 → AreRecoded old new table
-AreRecoded-none old new table n e f =
-    let none : (k : ℕ) → k < length old → get_or table k 0 ≡ 4294967295 = (λ k h. rw f (get_or-replicate n k 4294967295 0 (omega arith))) in
-    record {
-      long = rw f (length-replicate n 4294967295 ∙ e);
-      within = λ k h p. absurd (omega (arith, none k h));
-      same = λ k h p. absurd (omega (arith, none k h));
-    }
 
 -- a text that goes last keeps the codes, and has its own
 pub AreRecoded-add : (old new : List (List ℕ)) (table : List ℕ) (k : ℕ) → k < length old → AreRecoded old new table → AreRecoded old (with_text new (text_in old k)) (set table k (code_or_last new (text_in old k)))

@@ -1,11 +1,6 @@
 -- The first place at which a test passes, looked for item by item.
-use Rattle.std.proofs.{Common.{◌≡◌, ◌∙◌, ℕ, ◌+◌, ◌<◌, ◌≤◌, Bool, true, false, not, List, length, drop, get_or, position, Some, None, refl, ap, arith}, lemmas.Bool.{lt-ltb, le-ltb}, lemmas.List.Sums.{prefix_len-drop_yes, prefix_len-drop_no}}
+use Rattle.std.proofs.{Common.{◌≡◌, ◌∙◌, ℕ, ◌+◌, ◌<◌, ◌≤◌, Bool, true, not, List, length, drop, get_or, position, Some, None, refl, ap, arith}, lemmas.Bool.{lt-ltb, le-ltb}, lemmas.List.Sums.{prefix_len-drop_no}}
 use Rattle.std.specs.List.{position_or_len}
-
--- the test fails here, and is looked at behind
-pub place_next : {X : Type 0} (p : X → Bool) (xs : List X) (i : ℕ) (d : X) → i < length xs → p (get_or xs i d) ≡ false → position_or_len p xs ≡ i + position_or_len p (drop i xs)
-    → position_or_len p xs ≡ (i + 1) + position_or_len p (drop (i + 1) xs)
-place_next {X} p xs i d h miss so = so ∙ ap (λ (n : ℕ). i + n) (prefix_len-drop_yes (λ x. not (p x)) xs i d h (ap not miss)) ∙ omega arith
 
 pub place_found : {X : Type 0} (p : X → Bool) (xs : List X) (i : ℕ) (d : X) → i < length xs → p (get_or xs i d) ≡ true → position_or_len p xs ≡ i + position_or_len p (drop i xs) → position p xs ≡ Some i
 place_found {X} p xs i d h hit so =

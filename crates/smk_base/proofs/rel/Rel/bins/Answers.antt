@@ -1,4 +1,4 @@
-use Rattle.std.proofs.{Common.{◌≡◌, ◌∙◌, ap, subst, rules, map, to_z, of_z, w64, IfOk, arith}, lemmas.List.{length-map, get_or_read}, lemmas.Grind.common_steps}
+use Rattle.std.proofs.{Common.{◌≡◌, ◌∙◌, ap, subst, rules, map, to_z, of_z, w64, IfOk}, lemmas.List.{length-map, get_or_read}}
 use Rattle.smk_base.specs.{Images.ColumnImage, Rels.{Relation, bin_of}, Relations.column_in}
 use Rattle.smk_base.proofs.Relating.{one-bins}
 use Rattle.smk_base.proofs.rel.Rel.bins.Goals as goal
@@ -12,6 +12,3 @@ returns c =
     let binned = simp same at c.in_ok-column.ensures.cells in
     let cells = binned ∙ ap (λ (column : ColumnImage). map (bin_of c.args.width) column.cells) column in
     rw (← c.self.view_is) (subst (λ (rel : Relation). IfOk c.of_column.result (λ made. made ≡ rel)) (one-bins c.self.inside.count c.self.inside.columns.items c.args.c c.args.width c.in_ok-column.column c.self.invariant.each below kind cells) c.of_column.ensures)
-
-pub of_column-requires : goal.of_column-requires
-of_column-requires c = grind (arith, common_steps)

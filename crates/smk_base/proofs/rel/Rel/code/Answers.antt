@@ -1,8 +1,5 @@
-use Rattle.smk_base.proofs.Relating.{count-values, texts-values, text-values}
+use Rattle.smk_base.proofs.Relating.{texts-values, text-values}
 use Rattle.smk_base.proofs.rel.Rel.code.Goals as goal
-
-pub code-requires : goal.code-requires
-code-requires c = rw (count-values c.args.c c.args.self.now.rows c.texts.result.now.texts c.texts.ensures) c.requires.row
 
 pub returns-clause-code : goal.returns-clause-code
 returns-clause-code c =

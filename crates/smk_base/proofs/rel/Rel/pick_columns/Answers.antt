@@ -1,4 +1,4 @@
-use Rattle.std.proofs.{Common.arith, lemmas.List.length-map, lemmas.Grind.common_steps}
+use Rattle.std.proofs.lemmas.List.{length-map}
 use Rattle.smk_base.proofs.Relating.{made-pick}
 use Rattle.smk_base.proofs.rel.Rel.pick_columns.Goals as goal
 
@@ -7,6 +7,3 @@ returns c =
     let within = rw (← c.self.view_is, length-map) at c.requires.within in
     let so = rw c.as_slice.ensures.value at c.in_ok-pick_each.ensures in
     rw (← c.self.view_is) (made-pick c.self.inside.count c.self.inside.columns.items _ c.args.cols.now within so)
-
-pub pick_each-requires-clause-within : goal.pick_each-requires-clause-within
-pick_each-requires-clause-within c = grind (arith, common_steps)

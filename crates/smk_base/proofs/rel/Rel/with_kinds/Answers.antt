@@ -1,11 +1,6 @@
 use Rattle.smk_base.proofs.Relating.{kinds-long, made-with_kinds, values-fit}
 use Rattle.smk_base.proofs.rel.Rel.with_kinds.Goals as goal
 
-pub each_with_kind-requires-clause-wide : goal.each_with_kind-requires-clause-wide
-each_with_kind-requires-clause-wide c =
-    let long = rw (← c.self.view_is) at c.requires.long in
-    kinds-long c.self.inside.columns.items c.args.kinds.now long
-
 pub each_with_kind-requires-clause-fits : goal.each_with_kind-requires-clause-fits
 each_with_kind-requires-clause-fits c =
     let long = rw (← c.self.view_is) at c.requires.long in

@@ -1,5 +1,5 @@
 use Rattle.std.proofs.{Common.{rules, refl, subst, sym}, lemmas.Iterator.Adapters.{YieldsList-from_vec, serves_from_places}}
-use Rattle.smk_base.specs.{Columns.IsColumnOf}
+use Rattle.smk_base.specs.Columns.{IsColumnOf}
 use Rattle.smk_base.proofs.rel.each_column.owned_each.Goals as goal
 
 pub collect-requires-clause-can : goal.collect-requires-clause-can

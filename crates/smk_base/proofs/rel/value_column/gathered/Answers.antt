@@ -1,4 +1,4 @@
-use Rattle.std.proofs.{Common.{arith, [], pos}, lemmas.Grind.common_steps}
+use Rattle.std.proofs.Common.{[], pos}
 use Rattle.smk_base.specs.declared.value.Value.TheVariants as values
 use Rattle.smk_base.proofs.Kept.{map-gather}
 use Rattle.smk_base.proofs.rel.value_column.gathered.Goals as goal
@@ -17,12 +17,3 @@ pub returns-in_ok-gather-in-Texts-clause-cells : goal.returns-in_ok-gather-in-Te
 returns-in_ok-gather-in-Texts-clause-cells c =
     let within = rw c.in-Texts.is at c.requires.within in
     rw (c.in-Texts.is, c.in_ok-gather-in-Texts.ensures) (map-gather values.Text _ [] c.args.places.now within)
-
-pub items_at-requires-in-Wide : goal.items_at-requires-in-Wide
-items_at-requires-in-Wide c = grind (arith, common_steps)
-
-pub items_at-requires : goal.items_at-requires
-items_at-requires c = grind (arith, common_steps)
-
-pub gather-requires-clause-within : goal.gather-requires-clause-within
-gather-requires-clause-within c = grind (arith, common_steps)

@@ -1,4 +1,4 @@
-use Rattle.std.proofs.{Common.{◌<◌, ◌∙◌, ℕ, ap, length, map, get_or, ◌+◌, arith}, lemmas.List.{get_or_read, take_all}}
+use Rattle.std.proofs.{Common.{◌<◌, ◌∙◌, ℕ, ap, length, map, get_or, ◌+◌}, lemmas.List.{get_or_read, take_all}}
 use Rattle.smk_base.proofs.Loops.{mapped_next}
 use Rattle.smk_base.proofs.rel.value_column.items_at.Goals as goal
 
@@ -14,6 +14,3 @@ loop-place-preserved g c =
 
 pub returns : goal.returns
 returns g c = λ d. c.loop-place.invariant.made d ∙ ap (map (λ (place : ℕ). get_or c.args.items.now place d)) (take_all c.loop-place.place-index c.args.places.now c.loop-place-test.false)
-
-pub push_reserved-requires : goal.push_reserved-requires
-push_reserved-requires g c = omega (arith, c.loop-place.invariant.len, c.loop-place.invariant.room, c.loop-place-test.true)

@@ -1,4 +1,4 @@
-use Rattle.std.proofs.{Common.{ℤ, pos, rules, to_z, of_z, w64, arith, ◌∙◌, ◌+◌, ℕ, ap}, lemmas.Grind.common_steps}
+use Rattle.std.proofs.Common.{ℤ, pos, rules, to_z, of_z, w64, ◌∙◌, ◌+◌, ℕ, ap}
 use Rattle.std.specs.Int.{int_div_euclid}
 use Rattle.smk_base.proofs.Loops.{mapped_next}
 use Rattle.smk_base.proofs.rel.value_column.small_bins.Goals as goal
@@ -10,9 +10,3 @@ loop-number-preserved c =
       len = c.push_reserved.ensures.len ∙ ap (λ (n : ℕ). n + 1) c.loop-number.invariant.len;
       room = rw c.push_reserved.ensures.capacity c.loop-number.invariant.room;
     }
-
-pub returns : goal.returns
-returns c = grind (arith, common_steps)
-
-pub push_reserved-requires : goal.push_reserved-requires
-push_reserved-requires c = omega (arith, c.loop-number.invariant.len, c.loop-number.invariant.room, c.loop-number-test.true)

@@ -1,13 +1,7 @@
-use Rattle.std.proofs.Common.{◌≡◌, ◌∙◌, Bool, true, false, get_or, ap, sym, arith, rules, tests, position}
+use Rattle.std.proofs.Common.{◌≡◌, ◌∙◌, Bool, true, get_or, ap, sym, arith, rules, tests, position}
 use Rattle.smk_base.specs.{Dicts.text_eq, CatalogImage.{ViewImage, view_image}, declared.book.catalog.ViewInfo.ViewInfo}
-use Rattle.smk_base.proofs.{Search.{place_next, place_found, place_missing}, Texts.position-map}
+use Rattle.smk_base.proofs.{Search.{place_found, place_missing}, Texts.position-map}
 use Rattle.smk_base.proofs.book.catalog.Catalog.view_place.Goals as goal
-
-pub loop-v-preserved : goal.loop-v-preserved
-loop-v-preserved c =
-    let named : ViewInfo → Bool = λ view. text_eq view.name c.args.name.now in
-    let miss : named (get_or c.as_slice-views.result.now c.loop-v.v c.index-views-v.result) ≡ false = search (rules, tests) in
-    place_next named c.as_slice-views.result.now c.loop-v.v c.index-views-v.result c.loop-v-test.true miss c.loop-v.invariant
 
 pub returns-then-eq-clause-place : goal.returns-then-eq-clause-place
 returns-then-eq-clause-place c =

@@ -3,9 +3,6 @@ use Rattle.smk_base.specs.{Dicts.{code_in, texts_of, with_text}, HeldTexts.dict_
 use Rattle.smk_base.proofs.Codes.{with_text-known}
 use Rattle.smk_base.proofs.rel.dict.Dict.add_bytes.Goals as goal
 
-pub invariant_of-self-in-Many : goal.invariant_of-self-in-Many
-invariant_of-self-in-Many c = c.add_bytes.ensures.keeps
-
 pub returns-in-Some-clause-texts : goal.returns-in-Some-clause-texts
 returns-in-Some-clause-texts c =
     let texts = texts_of c.in-Few.list.items in

@@ -1,13 +1,7 @@
-use Rattle.std.proofs.{Common.{◌≡◌, ◌∙◌, ap, sym, arith, get_or, take, []}, lemmas.List.{length-map, length-take, take_all, get_or-map}}
+use Rattle.std.proofs.{Common.{◌≡◌, ◌∙◌, ap, sym, arith, get_or, take, []}, lemmas.List.{length-map, get_or-map}}
 use Rattle.smk_base.specs.Dicts.{texts_of, with_text}
 use Rattle.smk_base.proofs.Codes.{with_text-next}
 use Rattle.smk_base.proofs.rel.hashed.Hashed.of_texts.Goals as goal
-
-pub loop-text-init : goal.loop-text-init
-loop-text-init c = record { texts = c.new-made.ensures }
-
-pub add_bytes-requires : goal.add_bytes-requires
-add_bytes-requires c = rw (c.loop-text.invariant.texts, length-take) (omega (arith, c.loop-text-test.true, c.requires.few))
 
 pub loop-text-preserved : goal.loop-text-preserved
 loop-text-preserved c =
@@ -17,6 +11,3 @@ loop-text-preserved c =
     record {
       texts = c.in_ok-add_bytes.ensures.texts ∙ ap (λ texts. with_text texts c.as_slice.result.now) c.loop-text.invariant.texts ∙ ap (with_text (take i texts)) at ∙ with_text-next texts i c.requires.different (omega (arith, length-map c.args.texts.now (λ v. v.items), c.loop-text-test.true));
     }
-
-pub returns : goal.returns
-returns c = c.loop-text.invariant.texts ∙ take_all c.loop-text.text-index (texts_of c.args.texts.now) (omega (arith, length-map c.args.texts.now (λ v. v.items), c.loop-text-test.false))

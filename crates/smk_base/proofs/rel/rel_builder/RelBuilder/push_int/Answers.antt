@@ -20,11 +20,6 @@ push_int-requires-clause-fits c =
     let number : to_z w64 (of_z w64 c.args.number) ≡ c.args.number = to_z-of_z c.ranges.number in
     rw kind (subst (λ (z : ℤ). Fits (kind_in c.args.self.now.kinds (length c.args.self.now.begun)) (values.Int z)) (sym number) c.requires.fits)
 
-pub invariant_of-self : goal.invariant_of-self
-invariant_of-self c =
-    let next = next-at _ _ c.self.inside.columns.items _ _ c.self.view_is c.self.invariant c.requires.column c.index_mut.ensures.value in
-    (next_kept _ _ _ _ _ c.push_int.new.self next c.in_err-push_int.ensures.kind c.in_err-push_int.ensures.kept).are
-
 pub returns-in_err-push_int-clause-kept : goal.returns-in_err-push_int-clause-kept
 returns-in_err-push_int-clause-kept c =
     let next = next-at _ _ c.self.inside.columns.items _ _ c.self.view_is c.self.invariant c.requires.column c.index_mut.ensures.value in

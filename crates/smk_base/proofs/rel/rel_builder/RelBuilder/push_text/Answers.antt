@@ -16,11 +16,6 @@ push_text-requires-clause-text c =
     let kind = next_kind _ _ _ _ _ (next-at _ _ c.self.inside.columns.items _ _ c.self.view_is c.self.invariant c.requires.column c.index_mut.ensures.value) in
     kind ∙ c.requires.text
 
-pub invariant_of-self : goal.invariant_of-self
-invariant_of-self c =
-    let next = next-at _ _ c.self.inside.columns.items _ _ c.self.view_is c.self.invariant c.requires.column c.index_mut.ensures.value in
-    (next_kept _ _ _ _ _ c.push_text.new.self next c.in_err-push_text.ensures.kind c.in_err-push_text.ensures.kept).are
-
 pub returns-in_err-push_text-clause-kept : goal.returns-in_err-push_text-clause-kept
 returns-in_err-push_text-clause-kept c =
     let next = next-at _ _ c.self.inside.columns.items _ _ c.self.view_is c.self.invariant c.requires.column c.index_mut.ensures.value in

@@ -1,9 +1,6 @@
 use Rattle.smk_base.proofs.Recoding.{text-code}
 use Rattle.smk_base.proofs.rel.text_column.TextColumn.push_bytes.Goals as goal
 
-pub push_code-requires-clause-code : goal.push_code-requires-clause-code
-push_code-requires-clause-code c = rw (← c.self.view_is, ← c.self.invariant.firsts) (text-code _ _ _ c.in-Some.ensures).0
-
 pub returns-in-Some-clause-pushed : goal.returns-in-Some-clause-pushed
 returns-in-Some-clause-pushed c =
     let same = (text-code c.self.inside.dict.texts c.args.text.now c.in-Some.code c.in-Some.ensures).1 in
