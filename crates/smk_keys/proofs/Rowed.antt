@@ -1,5 +1,5 @@
 -- Numbers of rows, column by column.
-use Rattle.std.proofs.{Common.{◌≡◌, ℕ, suc, ◌+◌, ◌-◌, ◌<◌, ◌≤◌, ℤ, pos, List, [], ◌∷◌, ◌++◌, length, map, take, drop, get_or, nat_eq, refl, ap, sym, subst, ◌∙◌, arith, All, inl, inr, replicate, length-append, Decides}, lemmas.Bool.cases_lt, lemmas.List.{get_or_append_left, get_or-append_right, get_or_default, get_or-map, get_or-replicate, get_or-take, get_or-drop, length-drop, length-take-le, take-map, drop-map, take_all, take_more, length-map, length-replicate, map-append, map_push, same_from_push, same_lists}, lemmas.Slice.Eq.slice_eq-Decides, lemmas.Slice.Zip.{length-zip, get_or-zip}}
+use Rattle.std.proofs.{Common.{◌≡◌, ℕ, suc, ◌+◌, ◌-◌, ◌<◌, ◌≤◌, ℤ, pos, List, [], ◌∷◌, ◌++◌, length, map, take, drop, get_or, nat_eq, refl, ap, sym, subst, ◌∙◌, arith, All, inl, inr, replicate, length-append, Decides}, lemmas.Bool.cases_lt, lemmas.List.{get_or_append_left, get_or-append_right, get_or_default, get_or-map, get_or-replicate, get_or-take, get_or-drop, length-drop, length-take-le, take-map, drop-map, take_more, length-map, length-replicate, map-append, map_push, same_from_push, same_lists}, lemmas.Slice.Eq.slice_eq-Decides, lemmas.Slice.Zip.{length-zip, get_or-zip}}
 use Rattle.std.specs.List.{zip, slice_range}
 use Rattle.smk_base.specs.{declared.value.Kind.Kind, declared.value.Value.Value, Rels.{AreCodesOf, Fits, RowFits, kind_in, row_in, value_in, picked, column_values, column_texts, text_of}, Values.value_same, Widths.AreAlike}
 use Rattle.smk_base.specs.declared.value.Kind.TheVariants as kinds
@@ -180,10 +180,6 @@ range-more items from i d order within =
     let at : from + (i - from) ≡ i = omega arith in
     ap (λ x. slice_range items from i ++ x ∷ []) (sym (get_or-drop from items (i - from) d ∙ ap (λ k. get_or items k d) at)) ∙ sym (take_more (drop from items) (i - from) d (omega (arith, length-drop from items)))
     ∙ ap (λ k. take k (drop from items)) (sym e)
-
--- those from the first place up to the end are all
-pub whole-range : {X : Type 0} (items : List X) (n : ℕ) → n ≡ length items → slice_range items 0 n ≡ items
-whole-range items n e = take_all (n - 0) items (omega arith)
 
 -- numbers of items are, of those from one place up to another, their numbers
 pub AreNumbers-range : {X : Type 0} (none : X) (items : List X) (count : ℕ) (of : List ℕ) (from to : ℕ) → AreNumbers none items count of → from ≤ to → to ≤ length items → AreNumbers none (slice_range items from to) count (slice_range of from to)

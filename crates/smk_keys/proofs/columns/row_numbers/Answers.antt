@@ -1,4 +1,4 @@
-use Rattle.std.proofs.{Common.{◌-◌, get_or, take, arith}, lemmas.List.take_more, lemmas.Grind.common_steps}
+use Rattle.std.proofs.{Common.{◌-◌, get_or, take}, lemmas.List.take_more}
 use Rattle.std.specs.List.{slice_range}
 use Rattle.smk_keys.proofs.Rowed.{AreNumbers-more, AreNumbers-zeros, length-range}
 use Rattle.smk_keys.proofs.columns.row_numbers.Goals as goal
@@ -10,18 +10,3 @@ pub loop-k-preserved : goal.loop-k-preserved
 loop-k-preserved c =
     rw (take_more c.args.cols.now c.loop-k.k 0 c.loop-k-test.true)
     (AreNumbers-more (slice_range c.args.rel.now.rows c.args.from c.args.to) (take c.loop-k.k c.args.cols.now) (get_or c.args.cols.now c.loop-k.k 0) _ _ _ _ _ _ c.loop-k.invariant c.in_ok-more.ensures c.in_ok-made-2.ensures)
-
-pub returns : goal.returns
-returns c = grind (arith, common_steps)
-
-pub pair_numbers-requires-clause-long : goal.pair_numbers-requires-clause-long
-pair_numbers-requires-clause-long c = grind (arith, common_steps)
-
-pub pair_numbers-requires-clause-few : goal.pair_numbers-requires-clause-few
-pair_numbers-requires-clause-few c = grind (arith, common_steps)
-
-pub pair_numbers-requires-clause-left : goal.pair_numbers-requires-clause-left
-pair_numbers-requires-clause-left c = c.loop-k.invariant.below
-
-pub pair_numbers-requires-clause-right : goal.pair_numbers-requires-clause-right
-pair_numbers-requires-clause-right c = c.in_ok-more.ensures.below

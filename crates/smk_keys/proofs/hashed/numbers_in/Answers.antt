@@ -21,17 +21,6 @@ loop-i-preserved g c =
           (get_or_read c.args.items.now c.loop-i.i _ c.loop-i-test.true c.index-items-i.is none) (c.loop-i.invariant.2 none)),
     )
 
-pub overflow_cast-number : goal.overflow_cast-number
-overflow_cast-number g c =
-    let x = c.index-items-i.result in
-    let at = get_or_read c.args.items.now c.loop-i.i _ c.loop-i-test.true c.index-items-i.is x in
-    let more = IsCoded-next g.T.PartialEq.eq c.requires.same x c.args.items.now c.loop-i.i c.loop-i.of.items c.loop-i.seen.keys _ at (c.loop-i.invariant.2 x) in
-    let few = rw (← c.in_ok-number.ensures.keys) at more.few in
-    record { fits = omega (arith, few, c.in_ok-number.ensures.within, c.requires.few, c.loop-i-test.true) }
-
-pub overflow_cast-count : goal.overflow_cast-count
-overflow_cast-count g c = record { fits = rw c.len-count.ensures.len (omega (arith, c.loop-i.invariant.0, c.loop-i.auto.i-end, c.requires.few)) }
-
 pub returns : goal.returns
 returns g c = λ none. rw c.len-count.ensures.len (AreNumbers-coded g.T.PartialEq.eq c.requires.same none c.args.items.now c.loop-i.i _ _ (omega arith) (c.loop-i.invariant.2 none))
 

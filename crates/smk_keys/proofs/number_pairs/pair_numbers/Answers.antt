@@ -1,4 +1,4 @@
-use Rattle.std.proofs.{Common.{◌≡◌, ◌∙◌, ℕ, List, arith, rules, subst}, lemmas.Iterator.{YieldsList-from_map, YieldsList-from_slice, YieldsList-from_zip, items_from_collect}, lemmas.List.map-id, lemmas.Result.{IfOk-at_ok, IfOk-weaker}, lemmas.Grind.common_steps}
+use Rattle.std.proofs.{Common.{◌≡◌, ◌∙◌, ℕ, List, rules, subst}, lemmas.Iterator.{YieldsList-from_map, YieldsList-from_slice, YieldsList-from_zip, items_from_collect}, lemmas.List.map-id, lemmas.Result.{IfOk-at_ok, IfOk-weaker}}
 use Rattle.std.specs.List.{zip}
 use Rattle.smk_keys.specs.Numbers.{AreNumbers}
 use Rattle.smk_keys.proofs.Paired.{AreNumbers-places, AreNumbers-right}
@@ -11,9 +11,6 @@ returns-then-places-limit c =
 
 pub returns-then-left-le1 : goal.returns-then-left-le1
 returns-then-left-le1 c = AreNumbers-right c.args.left.of.items c.args.right.of.items c.args.left.count c.args.right.count c.requires.long c.if-left-le1.true c.requires.left c.requires.right
-
-pub table_places-requires-clause-fits : goal.table_places-requires-clause-fits
-table_places-requires-clause-fits c = grind (arith, common_steps)
 
 pub returns : goal.returns
 returns c =
