@@ -1,5 +1,5 @@
 -- Maps in which each place has itself alone.
-use Rattle.std.proofs.{Common.{◌≡◌, ◌∙◌, ◌<◌, ◌+◌, ◌&&◌, ◌↔◌, ℕ, zero, suc, Bool, List, [], ◌∷◌, length, map, get_or, eqb, refl, sym, ap, arith, inl, inr}, Math.ListN.replicate, lemmas.Bool.{and_parts, cases_eq, eq-eqb, eqb-true, ne_eqb}, lemmas.List.{same_lists, length-map, get_or_default}}
+use Rattle.std.proofs.{Common.{◌≡◌, ◌∙◌, ◌<◌, ◌+◌, ◌&&◌, ℕ, Bool, List, [], ◌∷◌, length, map, get_or, eqb, refl, sym, ap, arith, inl, inr}, lemmas.Bool.{and_parts, cases_eq, eq-eqb, eqb-true, ne_eqb}, lemmas.List.{same_lists, length-map, get_or_default}}
 use Rattle.std.specs.Prelude.{IsTrue}
 use Rattle.smk_base.specs.Places.{Lists, upto, own_lists}
 use Rattle.smk_rid.specs.Packing.{one_of}
@@ -31,11 +31,6 @@ own_more lists i n own at low each t k under =
       | inl e ↦ rw e (sym at ∙ ap one_of (eqb-true n i both.1) ∙ one_some i (λ f. absurd (omega (arith, low, f))))
       | inr ne ↦ each both.0 k (omega (arith, under, ne))
     ]
-
--- empty lists have their own places where there are none
-pub own_none : (n : ℕ) → let lists : List (List ℕ) = replicate n [] in IsTrue (eqb n 0) ↔ (lists ≡ map (λ i. i ∷ []) (upto (length lists)))
-own_none zero = (λ _. refl, λ _. refl)
-own_none (suc n) = (λ t. absurd (omega (arith, eqb-true (suc n) 0 t)), λ own. let e : [] ≡ 0 ∷ [] = own_at ([] ∷ replicate n []) 0 (omega arith) own in absurd (cc))
 
 -- a map of such lists, bounded by their number
 pub own_map : (m : Lists) → m.bound ≡ length m.lists → m.lists ≡ map (λ i. i ∷ []) (upto (length m.lists)) → m ≡ own_lists (length m.lists)

@@ -85,13 +85,6 @@ packed_put s r lists list starts rids end h last all at few =
     let is : cut starts rids ≡ lists ++ list ∷ [] = rw (last, all) (cut_is (s ++ end ∷ []) (r ++ list) (lists ++ list ∷ []) made) in
     (rw (is, last, all) made, is)
 
--- whether no step of the offsets is greater than 1 tells whether each list has at most one rid
-pub single_from_steps : (starts rids : List ℕ) (lists : List (List ℕ)) → IsPacking starts rids lists → ((k : ℕ) → k < length lists → get_or starts (k + 1) 0 ≤ get_or starts k 0 + 1) → All (λ l. length l ≤ 1) lists
-single_from_steps starts rids lists h steps k d low =
-    let e : get_or lists k d ≡ get_or lists k [] = get_or_default lists k d [] low in
-    let s = steps k low in
-    rw e (omega (arith, s, length_at starts rids lists k h low))
-
 pub one_is : (x : ℕ) → x < 4294967295 → one_of x ≡ x ∷ []
 one_is x h = let e = ne_eqb x 4294967295 (λ q. absurd (omega arith)) in rw e refl
 

@@ -1,4 +1,4 @@
-use Rattle.std.proofs.{Common.{arith, ◌≡◌, ◌∙◌, ◌<◌, ◌≤◌, ◌+◌, ◌∷◌, ◌++◌, [], ℕ, length, take, map, get_or, ap, sym, inl, inr}, lemmas.Bool.{cases_eq, eq-eqb, ne_eqb}, lemmas.List.{length_push, take_all, map_more}, lemmas.List.Sums.sum_by_more, lemmas.Grind.common_steps}
+use Rattle.std.proofs.{Common.{arith, ◌≡◌, ◌∙◌, ◌<◌, ◌≤◌, ◌+◌, ◌∷◌, ◌++◌, [], ℕ, length, take, map, get_or, ap, sym, inl, inr}, lemmas.Bool.{cases_eq, eq-eqb, ne_eqb}, lemmas.List.{length_push, take_all, map_more}, lemmas.List.Sums.sum_by_more}
 use Rattle.std.specs.List.{flat_map}
 use Rattle.smk_base.specs.Places.{Lists, members_at, list_at, pairs_of}
 use Rattle.smk_rid.specs.Packing.{one_of}
@@ -48,9 +48,3 @@ of_array-requires-clause-map c =
 
 pub of_array-requires-clause-single : goal.of_array-requires-clause-single
 of_array-requires-clause-single c = rw c.of.ensures (single-ones_of c.loop-i.rids.items)
-
-pub overflow_add-pairs : goal.overflow_add-pairs
-overflow_add-pairs c = grind (arith, common_steps)
-
-pub returns-clause-made : goal.returns-clause-made
-returns-clause-made c = grind (arith, common_steps)

@@ -1,4 +1,4 @@
-use Rattle.std.proofs.{Common.{arith, ◌≡◌, ◌∙◌, ◌<◌, ◌≤◌, [], length, take, map, get_or, ap, sym}, lemmas.List.take_all, lemmas.Result.err_from_is_err_and, lemmas.Grind.common_steps}
+use Rattle.std.proofs.{Common.{arith, ◌≡◌, ◌∙◌, ◌<◌, ◌≤◌, [], length, take, map, get_or, ap, sym}, lemmas.List.take_all, lemmas.Result.err_from_is_err_and}
 use Rattle.smk_base.specs.Places.{members_at, pairs_of}
 use Rattle.smk_rid.proofs.{Sets.sum_over, Joins.IsMap-composed}
 use Rattle.smk_rid.proofs.derive.compose.composed_lists.Goals as goal
@@ -21,12 +21,3 @@ of_packed-requires c =
     let lists : c.loop-i.made ≡ map (members_at b) a.lists = c.loop-i.invariant.lists ∙ ap (map (members_at b)) whole in
     let few : pairs_of (map (members_at b) a.lists) ≤ 16777216 = rw (sym lists) c.loop-i.invariant.few in
     rw (lists, c.bound.ensures) (IsMap-composed a b (omega arith) few)
-
-pub loop-i-preserved : goal.loop-i-preserved
-loop-i-preserved c = grind (arith, common_steps)
-
-pub returns-clause-made : goal.returns-clause-made
-returns-clause-made c = grind (arith, common_steps)
-
-pub returns-clause-few : goal.returns-clause-few
-returns-clause-few c = grind (arith, common_steps)

@@ -1,4 +1,4 @@
-use Rattle.std.proofs.{Common.{◌≡◌, ◌∙◌, ◌<◌, ◌+◌, ◌++◌, ◌∷◌, [], ℕ, get_or, length, take, refl, arith}, lemmas.Grind.common_steps}
+use Rattle.std.proofs.{Common.{◌≡◌, ◌∙◌, ◌<◌, ◌+◌, ◌++◌, ◌∷◌, [], ℕ, get_or, length, take, refl, arith}}
 use Rattle.std.specs.List.{filter}
 use Rattle.smk_base.specs.Places.{has}
 use Rattle.smk_rid.proofs.{Intersecting.{common_more, common_same, less_here, passed_next}, derive.intersect.passed_of.Goals.{then-is_at+in_ok-push, else-is_at}}
@@ -24,6 +24,3 @@ loop-rid-preserved c =
           let more : place < length others → x < get_or others place 0 = λ l. (let a = c.place_from-place.ensures.not_less l in let b = other l in omega (arith, a, b)) in
           record { made = rw w.made-is (common_same others ones c.loop-rid.made.items i x place c.requires.others low refl less more c.loop-rid.invariant.made); within = c.place_from-place.ensures.within; passed = passed }
     ]
-
-pub returns : goal.returns
-returns c = grind (arith, common_steps)

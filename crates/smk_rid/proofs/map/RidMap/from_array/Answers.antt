@@ -1,4 +1,4 @@
-use Rattle.std.proofs.{Common.{◌≡◌, ◌∙◌, take, map, ap, arith}, lemmas.List.take_all, lemmas.Grind.common_steps}
+use Rattle.std.proofs.{Common.{◌≡◌, ◌∙◌, take, map, ap}, lemmas.List.take_all}
 use Rattle.std.specs.Option.{option_to_list}
 use Rattle.smk_rid.proofs.Arrays.{IsMap-array_lists, single-options}
 use Rattle.smk_rid.proofs.map.RidMap.from_array.Goals as goal
@@ -14,9 +14,3 @@ of_array-requires-clause-single c =
     let whole : take c.loop-rid.rid-index c.args.of.now ≡ c.args.of.now = take_all c.loop-rid.rid-index c.args.of.now c.loop-rid-test.false in
     let lists : c.of.result ≡ map option_to_list c.args.of.now = c.of.ensures ∙ c.loop-rid.invariant.lists ∙ ap (map option_to_list) whole in
     rw lists (single-options c.args.of.now)
-
-pub returns : goal.returns
-returns c = grind (arith, common_steps)
-
-pub loop-rid-preserved : goal.loop-rid-preserved
-loop-rid-preserved c = grind (arith, common_steps)
