@@ -17,9 +17,3 @@ Appends-trans None b c xs ys first second = tt
 Appends-trans (Some a) None c xs ys first second = absurd first
 Appends-trans (Some a) (Some b) None xs ys first second = absurd second
 Appends-trans (Some a) (Some b) (Some c) xs ys first second = second ∙ ap (λ l. l ++ ys) first ∙ append_assoc a xs ys
-
-pub Appends-kept : (a b c : Option (List ℕ)) (xs : List ℕ) → known.Appends a b xs → known.Keeps b c → known.Appends a c xs
-Appends-kept None b c xs first kept = tt
-Appends-kept (Some a) None c xs first kept = absurd first
-Appends-kept (Some a) (Some b) None xs first kept = absurd kept
-Appends-kept (Some a) (Some b) (Some c) xs first kept = kept ∙ first

@@ -1,8 +1,8 @@
 -- The first line of the bytes of a reader, piece by piece.
-use Rattle.std.proofs.{Common.{◌≡◌, ◌≢◌, ◌≤◌, ◌<◌, ◌+◌, ◌-◌, ◌⊎◌, inl, inr, ℕ, Bool, true, false, eqb, cond, nat_lt, ◌&&◌, List, [], ◌∷◌, ◌++◌, All, Option, None, Some, IfSome, Result, Ok, Err, length, take, get_or, replicate, IfOk, refl, sym, ap, subst, ◌∙◌, arith, append_assoc, append-nil, length-append, length-take-le, get_or-take, eq-eqb, eqb-true}, lemmas.List.Elements.{All-nil, All-more, All-append, All-push}, lemmas.List.{get_or_push, length-replicate}, Math.Seq.take-append_seam}
+use Rattle.std.proofs.{Common.{◌≡◌, ◌≢◌, ◌≤◌, ◌<◌, ◌+◌, ◌-◌, ◌⊎◌, inl, inr, ℕ, Bool, true, false, eqb, cond, nat_lt, ◌&&◌, List, [], ◌∷◌, ◌++◌, All, Option, None, Some, IfSome, Result, Ok, Err, length, take, get_or, replicate, IfOk, refl, sym, ap, subst, ◌∙◌, arith, append_assoc, append-nil, length-append, length-take-le, get_or-take, eq-eqb, eqb-true}, lemmas.List.Elements.{All-nil, All-more, All-push}, lemmas.List.{get_or_push, length-replicate}, Math.Seq.take-append_seam}
 use borrow.Author.Tests.{ltb-true, lt-ltb}
 use Rattle.std.specs.{Io.StartsWith, Io.KnownBytes.{Keeps, Consumes}, Io.BufRead.{take_through, drop_through, strip_last, ends_with_byte, DropsConsumable, DropsThrough}, Option.option_map}
-use Rattle.std.proofs.{KnownBytes.{Consumes-trans, Appends-nil}, BufReadLemmas.{take_through-append, drop_through-append, take_through-nil, Consumes_shown, Consumes_through, zero_unless_positive}, Transfers.StopsAt-take}
+use Rattle.std.proofs.{KnownBytes.{Appends-nil}, BufReadLemmas.{take_through-append, drop_through-append, take_through-nil, Consumes_shown, Consumes_through, zero_unless_positive}, Transfers.StopsAt-take}
 use Rattle.smk_outside.specs.{declared.talk.heard.Heard.Heard, declared.talk.heard.Heard.TheVariants.{Line, Long, End}, declared.talk.heard.TalkFault.TalkFault, declared.talk.heard.TalkFault.TheVariants.{Failed, NoMemory}, Told.{Told, AreFirst, says}, Saying.SaysFront, Hearing.Gives, StreamSink.AppendsKnownPart, StreamTalk.{without_end, first_line, later_lines, lines_after, lines_of, IsShort, HearsBytes, IsHeard, TakesFront, AreTaken, SomeTaken}}
 use Rattle.std.specs.Io.KnownBytes as known
 
@@ -38,31 +38,10 @@ part_taken a b c buffered shown n false within some before front end kept fits d
       ],
     )
 
--- a line that goes on, and one that ends
-pub taken_more : (a b c : Option (List ℕ)) (old new : List ℕ) (old_fits : HasNoEnd old) → Consumes a b old → SomeTaken b c old new (Ok false) → HasNoEnd new × Consumes a c new
-taken_more a b c old new fits taken (part, is, (read, none)) =
-    (subst HasNoEnd (sym is) (All-append (λ x. x ≢ 10) old part fits none), subst (Consumes a c) (sym is) (Consumes-trans a b c old part taken read))
-
 pub taken_whole : (a b c : Option (List ℕ)) (old new : List ℕ) (most : ℕ) → HasNoEnd old → Consumes a b old → SomeTaken b c old new (Ok true) → TakesFront most a c new (Ok true)
 taken_whole None b c old new most fits taken (part, is, (read, stops, ends, end)) = tt
 taken_whole (Some x) b c old new most fits taken (part, is, (read, stops, ends, end)) =
     let both = Consumes_through 10 (Some x) b c old part taken fits read stops ends end in (is ∙ both.0, both.1)
-
-pub taken_failed : (a b c : Option (List ℕ)) (old new : List ℕ) (most : ℕ) (fault : TalkFault) → HasNoEnd old → Consumes a b old → SomeTaken b c old new (Err fault) → TakesFront most a c new (Err fault)
-taken_failed a b c old new most Failed fits taken some = tt
-taken_failed a b c old new most NoMemory fits taken (part, is, (read, none, more)) =
-    let same : new ≡ old = is ∙ ap (λ l. old ++ l) none ∙ append-nil old in
-    let all = Consumes-trans a b c old part taken read in
-    (subst HasNoEnd (sym same) fits, subst (Consumes a c) (sym is) all, some a b taken more)
-  where
-    some : (x y : Option (List ℕ)) → Consumes x y old → IfSome y (λ whole. whole ≢ []) → IfSome x (λ whole. whole ≢ [])
-    some None y p q = tt
-    some (Some x) None p q = absurd p
-    some (Some x) (Some y) p q = λ e. q (append_rest old y (sym p ∙ e))
-      where
-        append_rest : (xs ys : List ℕ) → xs ++ ys ≡ [] → ys ≡ []
-        append_rest [] ys e = e
-        append_rest (x ∷ xs) ys e = cc
 
 -- a line that was taken whole
 pub heard_whole : (limit most : ℕ) (a c : Option (List ℕ)) (line : List ℕ) (heard : Heard) → TakesFront most a c line (Ok true) → IsHeard limit line heard → HearsBytes limit a c (Ok heard)
@@ -73,10 +52,6 @@ heard_whole limit most (Some x) c line Long taken is =
     (subst (λ l. limit < length (without_end l)) taken.0 is.1, taken.1, λ none. is.0 (taken.0 ∙ ap (take_through 10) none))
 heard_whole limit most (Some x) c line End taken is =
     let none = take_through-nil 10 x (ap length (sym taken.0 ∙ is)) in (none, taken.1 ∙ ap (λ l. Some (later_lines l)) none)
-
-pub short_heard : (limit : ℕ) (line : List ℕ) (heard : Heard) → IsHeard limit line heard → IsShort limit heard
-short_heard limit line (Line text) is = subst (λ l. length l ≤ limit) (sym is.1) is.2
-short_heard limit line _ is = tt
 
 -- a line that goes on past its front is skipped
 pub skipped : (a b c : Option (List ℕ)) (front : List ℕ) → HasNoEnd front → Consumes a b front → DropsThrough b c 10 → IfSome a (λ xs. c ≡ Some (later_lines xs))

@@ -1,9 +1,6 @@
 use Rattle.std.proofs.Common.{◌+◌, ◌≤◌, length, arith}
-use Rattle.smk_outside.proofs.Reading.{heard_whole, short_heard, heard_long, heard_without_memory}
+use Rattle.smk_outside.proofs.Reading.{heard_whole, heard_long, heard_without_memory}
 use Rattle.smk_outside.proofs.talk.stream_talk.hear_line.Goals as goal
-
-pub returns-in-Ok-true-clause-short : goal.returns-in-Ok-true-clause-short
-returns-in-Ok-true-clause-short g c = short_heard _ _ _ c.heard.ensures
 
 pub returns-in-Ok-true-clause-bytes : goal.returns-in-Ok-true-clause-bytes
 returns-in-Ok-true-clause-bytes g c =

@@ -1,8 +1,5 @@
-use Rattle.smk_outside.proofs.Reading.{taken_whole, taken_failed}
+use Rattle.smk_outside.proofs.Reading.{taken_whole}
 use Rattle.smk_outside.proofs.talk.stream_talk.take_front.Goals as goal
-
-pub returns-in-Err : goal.returns-in-Err
-returns-in-Err g c = taken_failed _ _ _ _ _ c.args.most _ c.loop.invariant.0 c.loop.invariant.1 c.in-Err.ensures.some
 
 pub returns-in-Ok-true : goal.returns-in-Ok-true
 returns-in-Ok-true g c =
