@@ -31,13 +31,6 @@ pub join_fault : (read : List Part) (p : ℕ) (rows : List (List Value)) (fault 
     → parts_behind 0 read ≡ Err fault
 join_fault read p rows fault l h e = h ∙ ap (all_behind rows) (next_of read p (Ok []) l) ∙ one_fault rows fault (get_or read p (Ok [])) (drop (p + 1) read) e
 
-pub join_start : (read : List Part) → parts_behind 0 read ≡ all_behind [] (drop 0 read)
-join_start read = by (parts_behind 0 read)
-  where
-    by : (r : Part) → r ≡ ◌>>=◌ r (λ more. Ok more)
-    by (Ok rows) = refl
-    by (Err fault) = refl
-
 -- the parts that pieces give, place by place
 pub gives_all : (cols : List ColDecl) (places : List ℕ) (width : ℕ) (texts : List (Bor (List ℕ))) (made : List (Result Relation TableFault)) → length made ≡ length texts
     → ((p : ℕ) (d : Bor (List ℕ)) (e : Result Relation TableFault) → p < length texts → Gives cols (rows_from cols places width 1 (behind_header (p == 0) (read_of (get_or texts p d)))) (get_or made p e))

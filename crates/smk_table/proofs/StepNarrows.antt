@@ -5,10 +5,10 @@ use Rattle.smk_base.specs.{Places.{Lists, has, upto, places}, Plans.{Formula, Co
 use Rattle.smk_base.specs.declared.value.Kind.TheVariants as kinds
 use Rattle.smk_base.specs.declared.book.plan.Item.TheVariants as items
 use Rattle.smk_base.specs.declared.book.plan.Operand.TheVariants as operands
-use Rattle.smk_model.specs.{Values.{Row, meets, operand_at, value_cmp, holds}, Plain.{agree, meets_together, always, nested, image, key_of, firsts, step1, step2}, Kinds.{AreAlike, ItemFits, ItemsFit, OperandFits, FormulaFits, PairFits, JoinFits, Fits1, Fits2, FewTogether, kinds1, kinds2}, Lineage.{row_at, meeting, matching, lefts_of, rights_of}, Locals.{back_lists, back1, fwd1, back_left, fwd_left, back_right, fwd_right}, Ways.{Way, Own, Sources, back_of, fwd_of, reaches, way, left_way, right_way, IsOf}}
+use Rattle.smk_model.specs.{Values.{Row, meets, operand_at, value_cmp, holds}, Plain.{agree, meets_together, always, nested, firsts, step1, step2}, Kinds.{AreAlike, ItemFits, ItemsFit, OperandFits, FormulaFits, PairFits, JoinFits, Fits1, Fits2, FewTogether, kinds1, kinds2}, Lineage.{row_at, meeting, matching, lefts_of, rights_of}, Locals.{back_lists, back1, fwd1, back_left, fwd_left, back_right, fwd_right}, Ways.{Way, Own, Sources, back_of, fwd_of, reaches, way, left_way, right_way, IsOf}}
 use Rattle.smk_base.proofs.Places.{filter_map, map_map, same_below, places_below, few_places, map_upto}
 use Rattle.smk_model.proofs.{Parts.places_add, Bulk.bulk, Directions.length_each, Ways.lineage_of_ways}
-use Rattle.smk_table.specs.{Named.{is_of, place_of, item_among, pair_among, behind, is_paired}, Wanted.{AreWide, in_operand, in_formula, operand_among, formula_among, is_read, below, among1, after1, is_met, below_left, below_right, among2, after2}}
+use Rattle.smk_table.specs.{Named.{is_of, place_of, pair_among, behind, is_paired}, Wanted.{AreWide, in_operand, in_formula, operand_among, formula_among, is_read, below, among1, after1, is_met, below_left, below_right, among2, after2}}
 use Rattle.smk_table.proofs.{Narrows.{HasItem, each_agrees, each_fits, value_there, kind_there, long_there, images_there, item_kinds, items_fit, keys_there, group_rows, group_kinds, group_fits, has_passing, has_keys, has_aggs}, JoinNarrows.{SameTest, read_behind, nested_there, matching_there}}
 
 -- columns among others

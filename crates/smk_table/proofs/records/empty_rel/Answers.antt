@@ -3,16 +3,7 @@ use Rattle.smk_model.specs.Tables.{declared_kinds}
 use Rattle.smk_table.proofs.TableRows.{kinds_columns}
 use Rattle.smk_table.proofs.records.empty_rel.Goals as goal
 
-pub loop-c-preserved : goal.loop-c-preserved
-loop-c-preserved c = grind (arith, common_steps)
-
 pub new-requires-clause-low_levels : goal.new-requires-clause-low_levels
 new-requires-clause-low_levels c =
     let whole : take (length c.as_slice.result.now) c.loop-c.kinds ≡ declared_kinds c.args.cols.now = grind (arith, common_steps) in
     rw whole (kinds_columns c.args.cols.now c.requires.base)
-
-pub returns : goal.returns
-returns c = grind (arith, common_steps)
-
-pub slice_bounds-new-end : goal.slice_bounds-new-end
-slice_bounds-new-end c = grind (arith, common_steps)

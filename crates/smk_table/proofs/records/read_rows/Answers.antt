@@ -1,4 +1,4 @@
-use Rattle.std.proofs.{Common.{◌≡◌, ◌∙◌, ◌+◌, ◌++◌, ◌∷◌, [], Ok, length, sym, ap, arith}, lemmas.List.length_push, lemmas.Grind.common_steps}
+use Rattle.std.proofs.{Common.{◌≡◌, ◌∙◌, ◌+◌, ◌++◌, ◌∷◌, [], Ok, length, sym, ap, arith}, lemmas.List.length_push}
 use Rattle.csv.specs.Records.{fields_of}
 use Rattle.smk_model.specs.{Names.◌>>=◌, Tables.{record_row, all_or_first, numbered}}
 use Rattle.smk_table.specs.CsvReader.{records_left}
@@ -27,9 +27,3 @@ loop-nth-preserved c =
           ∙ all_or_first-step row_of c.loop-nth.nth _ _ rows given.0 given.1
           ∙ ap (λ rows. ◌>>=◌ (all_or_first (numbered row_of (c.loop-nth.nth + 1) (records_left c.next_record.new.reader))) (behind rows)) pushed;
     }
-
-pub loop-nth-init : goal.loop-nth-init
-loop-nth-init c = grind (arith, common_steps)
-
-pub push_record-requires-clause-places : goal.push_record-requires-clause-places
-push_record-requires-clause-places c = grind (arith, common_steps)

@@ -10,8 +10,5 @@ returns-clause-within c k d p =
     let low = subst (λ (z : List ℕ). All (λ r. r < c.loop-c.c) z) (sym c.loop-c.invariant) (places_below t c.loop-c.c) k d p in
     omega (arith, low, c.loop-c.auto.c-end)
 
-pub loop-c-preserved : goal.loop-c-preserved
-loop-c-preserved c = grind (arith, common_steps)
-
 pub returns-clause-few : goal.returns-clause-few
 returns-clause-few c = grind (arith, common_steps, few_places)

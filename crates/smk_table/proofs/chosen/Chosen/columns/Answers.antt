@@ -1,4 +1,4 @@
-use Rattle.std.proofs.{Common.{◌∙◌, List, ℕ, Some, sym, ap, arith}, lemmas.Result.IfOk-weaker, lemmas.Grind.common_steps}
+use Rattle.std.proofs.{Common.{◌∙◌, List, ℕ, Some, sym, ap}, lemmas.Result.IfOk-weaker}
 use Rattle.smk_table.proofs.Choices.{columns_chosen}
 use Rattle.smk_table.proofs.chosen.Chosen.columns.Goals as goal
 
@@ -8,12 +8,3 @@ returns-in-Some c =
     (λ made is. columns_chosen c.self.inside.rel c.args.self.now c.in_ok-whole.whole made c.self.inside.rids c.as_slice.result.now c.args.cols.now
     c.self.view_is (c.in-Some.is ∙ ap (λ (rids : List ℕ). Some rids) (sym c.as_slice.ensures)) c.self.invariant c.in_ok-whole.ensures is)
     c.gather.ensures
-
-pub gather-requires-clause-within : goal.gather-requires-clause-within
-gather-requires-clause-within c = grind (arith, common_steps)
-
-pub pick_columns-requires-clause-within : goal.pick_columns-requires-clause-within
-pick_columns-requires-clause-within c = grind (arith, common_steps)
-
-pub gather-requires-clause-few : goal.gather-requires-clause-few
-gather-requires-clause-few c = grind (arith, common_steps)

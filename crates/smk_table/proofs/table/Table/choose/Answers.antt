@@ -1,9 +1,5 @@
-use Rattle.std.proofs.{Common.arith, lemmas.Grind.common_steps}
 use Rattle.smk_table.proofs.Shown.{rows_at-first}
 use Rattle.smk_table.proofs.table.Table.choose.Goals as goal
-
-pub at_rids-requires-clause-inside : goal.at_rids-requires-clause-inside
-at_rids-requires-clause-inside g c = grind (arith, common_steps)
 
 pub returns-clause-rows : goal.returns-clause-rows
 returns-clause-rows g c =

@@ -1,9 +1,5 @@
-use Rattle.std.proofs.{Common.arith, lemmas.Grind.common_steps}
 use Rattle.smk_table.proofs.Shown.{rows_at-first}
 use Rattle.smk_table.proofs.table.Table.gather.Goals as goal
-
-pub gather-requires-clause-within : goal.gather-requires-clause-within
-gather-requires-clause-within g c = grind (arith, common_steps)
 
 pub returns-clause-rows : goal.returns-clause-rows
 returns-clause-rows g c =
