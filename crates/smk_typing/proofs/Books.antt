@@ -1,21 +1,10 @@
 -- A book statement by statement.
 use Rattle.std.proofs.{Common.{◌≡◌, ◌∙◌, ◌+◌, ◌<◌, ◌≤◌, ℕ, suc, Bool, List, ◌∷◌, map, drop, length, get_or, Ok, refl, sym, ap, subst, arith}, lemmas.List.{drop_more, at_drop_all}, lemmas.List.Sums.sum_by-cons}
 use Rattle.std.specs.Prelude.{count_by}
-use Rattle.smk_base.specs.{CatalogImage.CatalogImage, TreeImage.stmt_image, Trees.StmtImage, declared.book.tree.Stmt.Stmt, declared.book.type_fault.TypeFault.TypeFault, declared.book.limits.TheConstants.{TABLE_LIMIT, VIEW_LIMIT}}
-use Rattle.smk_model.specs.{Expanded.{HasNoDependency, IsNoDependency}, Limits.{KeepsLimits, KeepsStmt, is_table, is_view}, Names.in_turn, Typing.{types, stmt_after, nothing_declared}}
-use Rattle.smk_typing.specs.{Answers.Fails, Rest.{IsBefore, one_if}}
-use Rattle.smk_typing.proofs.CatalogsFit.{stmt_kept, nothing_typed}
-
--- before the first statement
-pub at_first : (book : List StmtImage) (catalog : CatalogImage) → catalog ≡ nothing_declared → KeepsLimits book → HasNoDependency book → IsBefore book catalog book
-at_first book catalog none limits replaced = subst (λ (start : CatalogImage). IsBefore book start book) (sym none) (record {
-  typed = nothing_typed;
-  types_rest = refl;
-  few_tables = omega (arith, limits.few_tables);
-  few_views = omega (arith, limits.few_views);
-  each = limits.each;
-  replaced = replaced;
-})
+use Rattle.smk_base.specs.{CatalogImage.CatalogImage, TreeImage.stmt_image, Trees.StmtImage, declared.book.tree.Stmt.Stmt}
+use Rattle.smk_model.specs.{Expanded.{IsNoDependency}, Limits.{KeepsStmt, is_table, is_view}, Names.in_turn, Typing.{types, stmt_after}}
+use Rattle.smk_typing.specs.{Rest.{IsBefore, one_if}}
+use Rattle.smk_typing.proofs.CatalogsFit.{stmt_kept}
 
 counted : (p : StmtImage → Bool) (s : StmtImage) (more : List StmtImage) → count_by p (s ∷ more) ≡ one_if (p s) + count_by p more
 counted p s more = sum_by-cons (λ x. one_if (p x)) s more
@@ -41,22 +30,11 @@ next_kept book catalog s more before = before.each 0 s (omega arith)
 pub next_replaced : (book : List StmtImage) (catalog : CatalogImage) (s : StmtImage) (more : List StmtImage) → IsBefore book catalog (s ∷ more) → IsNoDependency s
 next_replaced book catalog s more before = before.replaced 0 s (omega arith)
 
--- the fault of the next statement is the book's
-pub next_fails : (book : List StmtImage) (catalog : CatalogImage) (s : StmtImage) (more : List StmtImage) (fault : TypeFault) → IsBefore book catalog (s ∷ more) → Fails fault (stmt_after catalog s) → Fails fault (types book)
-next_fails book catalog s more fault before fails other = before.types_rest ∙ rw (fails other) refl
-
 -- the rest begins with the statement at this place
 pub rest_at : (book : List StmtImage) (catalog : CatalogImage) (stmts : List Stmt) (i : ℕ) (s : Stmt) → i < length stmts → s ≡ get_or stmts i s → IsBefore book catalog (map stmt_image (drop i stmts)) → IsBefore book catalog (stmt_image s ∷ map stmt_image (drop (i + 1) stmts))
 rest_at book catalog stmts i s below here before =
     let e : drop i stmts ≡ s ∷ drop (i + 1) stmts = drop_more stmts i s below ∙ ap (λ x. x ∷ drop (i + 1) stmts) (sym here) in
     subst (λ (rest : List Stmt). IsBefore book catalog (map stmt_image rest)) e before
-
--- there is room for the next statement's table or view
-pub next_tables : (book : List StmtImage) (catalog : CatalogImage) (s : StmtImage) (more : List StmtImage) → IsBefore book catalog (s ∷ more) → length catalog.tables + one_if (is_table s) ≤ TABLE_LIMIT
-next_tables book catalog s more before = omega (arith, before.few_tables, counted is_table s more)
-
-pub next_views : (book : List StmtImage) (catalog : CatalogImage) (s : StmtImage) (more : List StmtImage) → IsBefore book catalog (s ∷ more) → length catalog.views + one_if (is_view s) ≤ VIEW_LIMIT
-next_views book catalog s more before = omega (arith, before.few_views, counted is_view s more)
 
 -- after the last statement
 pub at_last : (book : List StmtImage) (catalog : CatalogImage) (stmts : List Stmt) (i : ℕ) → length stmts ≤ i → IsBefore book catalog (map stmt_image (drop i stmts)) → types book ≡ Ok catalog

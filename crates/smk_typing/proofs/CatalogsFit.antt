@@ -4,7 +4,7 @@ use Rattle.std.specs.List.{list_any}
 use Rattle.smk_base.specs.{declared.value.Kind.Kind, declared.value.Value.Value, Rels.Fits, declared.book.tree.Word.Word, declared.book.tree.Lit.Lit, declared.book.tree.Decl.Decl, declared.book.tree.Extra.Extra, declared.book.col_decl.ColDecl.ColDecl, declared.book.catalog.Column.Column, declared.book.catalog.TableInfo.TableInfo, declared.book.catalog.Back.Back, declared.book.catalog.BackExtra.BackExtra, declared.book.catalog.Fwd.Fwd, declared.book.catalog.LinkInfo.LinkInfo, declared.book.type_fault.TypeFault.TheVariants.{UnknownView, DuplicateName, KindMismatch, SelfLink, RepeatedDeclaration}, Plans.{Expr, Leaf, Apply, Combine}, Trees.{TreeImage, StmtImage, TableNode, ViewNode, BackNode, FwdNode, LinkNode, DependsNode}, CatalogImage.{CatalogImage, ViewImage}}
 use Rattle.smk_base.specs.declared.value.Value.TheVariants as values
 use Rattle.smk_base.specs.declared.book.tree.Extra.TheVariants as extras
-use Rattle.smk_model.specs.{Names.{in_turn, same_name, is_taken, column_named, column_kinds, same_sort}, Kinds.{AreAlike, kind_of}, Tables.{IsBase, IsBaseColumn}, Plain.leaves, Selection.{ScansFit, PlanFits, leaf_kinds, plan_kinds}, Expanded.IsNoDependency, Limits.{KeepsStmt, KeepsDecls, KeepsPlan, IsInRange, DefaultInRange, is_table, is_view}, TypedSteps.{TypedPlan, typed_group}, Typing.{stmt_after, nothing_declared, columns_of, info_at, no_table, table_by_word, view_by_word, typed_plan, declared_kind, declared_column, decl_after, table_after, view_of, view_after, typed_extra, same_back, back_after, same_fwd, fwd_after, same_link, linked_to, all_links, to_after, link_after}, Catalogs.{table_kinds, each_table_kinds, ViewFits, ExtraFits, BackFits, FwdFits, LinkFits, IsTyped}}
+use Rattle.smk_model.specs.{Names.{in_turn, same_name, is_taken, column_named, column_kinds, same_sort}, Kinds.{AreAlike, kind_of}, Tables.{IsBase, IsBaseColumn}, Plain.leaves, Selection.{ScansFit, PlanFits, leaf_kinds, plan_kinds}, Expanded.IsNoDependency, Limits.{KeepsStmt, KeepsDecls, KeepsPlan, IsInRange, DefaultInRange, is_table, is_view}, TypedSteps.{TypedPlan, typed_group}, Typing.{stmt_after, columns_of, info_at, no_table, table_by_word, view_by_word, typed_plan, declared_kind, declared_column, decl_after, table_after, view_of, view_after, typed_extra, same_back, back_after, same_fwd, fwd_after, same_link, linked_to, all_links, to_after, link_after}, Catalogs.{table_kinds, each_table_kinds, ViewFits, ExtraFits, BackFits, FwdFits, LinkFits, IsTyped}}
 use Rattle.smk_typing.specs.Rest.{one_if}
 use Rattle.smk_typing.proofs.{Results.{made_of, unless_ok, ok_keeps, in_turn_keeps}, StepsFit.{named_is, kinds_long, alike}, ListsFit.group_stands, PlansFit.{plan_stands, table_is}, Lookups.named_within}
 
@@ -190,6 +190,3 @@ stmt_kept old new (BackNode at view table extra) typed keeps none e = back_kept 
 stmt_kept old new (FwdNode at table view) typed keeps none e = fwd_kept old new at table view typed e
 stmt_kept old new (LinkNode view table words) typed keeps none e = link_kept old new view table words typed e
 stmt_kept old new (DependsNode at name table keys col) typed keeps none e = absurd none
-
-pub nothing_typed : IsTyped nothing_declared
-nothing_typed = record { columns = All-nil _; views = All-nil _; backs = All-nil _; fwds = All-nil _; links = All-nil _ }

@@ -1,14 +1,11 @@
 -- Declarations by their keys.
-use Rattle.std.proofs.{Common.{◌≡◌, ◌∙◌, ◌<◌, ◌≤◌, ℕ, Bool, ◌&&◌, nat_eq, false, Ok, List, [], ◌∷◌, ◌++◌, map, length, refl, sym, ap, arith, length-append, append-nil, append_assoc}, lemmas.List.map-append, lemmas.List.Elements.All-push, lemmas.Grind.flat_map-append}
+use Rattle.std.proofs.{Common.{◌≡◌, ◌∙◌, ℕ, Bool, ◌&&◌, nat_eq, false, Ok, List, [], ◌∷◌, ◌++◌, map, refl, sym, ap}}
 use Rattle.std.specs.List.{list_any}
-use Rattle.smk_base.specs.{declared.book.catalog.TableInfo.TableInfo, declared.book.catalog.ViewInfo.ViewInfo, declared.book.catalog.Back.Back, declared.book.catalog.BackExtra.BackExtra, declared.book.catalog.BackExtra.TheVariants.{Plain, By, Grouped}, declared.book.catalog.Fwd.Fwd, declared.book.catalog.LinkInfo.LinkInfo, declared.book.tree.Word.Word, declared.book.type_fault.TypeFault.TheVariants.RepeatedDeclaration, CatalogImage.view_image, declared.book.limits.TheConstants.TABLE_LIMIT, declared.rel.TheConstants.COLUMN_LIMIT}
+use Rattle.smk_base.specs.{declared.book.catalog.ViewInfo.ViewInfo, declared.book.catalog.Back.Back, declared.book.catalog.BackExtra.BackExtra, declared.book.catalog.BackExtra.TheVariants.{Plain, By, Grouped}, declared.book.catalog.Fwd.Fwd, declared.book.catalog.LinkInfo.LinkInfo, declared.book.tree.Word.Word, declared.book.type_fault.TypeFault.TheVariants.RepeatedDeclaration, CatalogImage.view_image}
 use Rattle.smk_model.specs.{Names.unless, Typing.{Link, same_form, same_back, same_fwd, same_link, all_links, linked_to, view_by_word, to_after}}
-use Rattle.smk_typing.specs.{declared.draft.form.Form.Form, contracts.draft.form.FormPartialEq.TheImpl.ghosts, Drafts.over, Keys.{AreTables, form_of, back_key, fwd_key, link_key}}
+use Rattle.smk_typing.specs.{declared.draft.form.Form.Form, contracts.draft.form.FormPartialEq.TheImpl.ghosts, Drafts.over, Keys.{form_of, back_key, fwd_key, link_key}}
 
 -- tables and views
-
-pub tables_push : (tables : List TableInfo) (table : TableInfo) → AreTables tables → length tables < TABLE_LIMIT → length table.cols ≤ COLUMN_LIMIT → AreTables (tables ++ table ∷ [])
-tables_push tables table held room narrow = (omega (arith, length-append tables (table ∷ [])), All-push (λ (each : TableInfo). length each.cols ≤ COLUMN_LIMIT) tables table held.1 narrow)
 
 -- the names of views are those of their images
 pub view_names : (views : List ViewInfo) → map (λ view. view.name) (map view_image views) ≡ map (λ view. view.name) views
@@ -43,17 +40,6 @@ any_link : (view table to : ℕ) (all : List Link) → list_any (λ key. nat_eq 
 any_link view table to all = any_key _ (same_link (record { view = view; table = table; to = to })) link_key (λ each. refl) all
 
 -- links
-
-pub all_links-push : (links : List LinkInfo) (link : LinkInfo) → all_links (links ++ link ∷ []) ≡ all_links links ++ linked_to link.view link.table link.to
-all_links-push links link =
-    flat_map-append (λ each. linked_to each.view each.table each.to) links (link ∷ [])
-    ∙ ap (λ rest. all_links links ++ rest) (append-nil (linked_to link.view link.table link.to))
-
-pub linked_to-push : (links : List Link) (view table : ℕ) (to : List ℕ) (w : ℕ) → map link_key (links ++ linked_to view table (to ++ w ∷ [])) ≡ map link_key (links ++ linked_to view table to) ++ (view, table, w) ∷ []
-linked_to-push links view table to w =
-    ap (λ more. map link_key (links ++ more)) (map-append (λ each. record { view = view; table = table; to = each }) to (w ∷ []))
-    ∙ ap (map link_key) (sym (append_assoc links (linked_to view table to) _))
-    ∙ map-append link_key (links ++ linked_to view table to) _
 
 -- what one more linked view gives, where it is declared and isn't the first view, by the keys of the links
 pub to_after_is : (views : List ViewInfo) (links : List LinkInfo) (keys : List (ℕ × ℕ × ℕ)) (view table : ℕ) (to : List ℕ) (word : Word) (w : ℕ) (repeated : Bool) → view_by_word (map view_image views) word ≡ Ok w → nat_eq w view ≡ false

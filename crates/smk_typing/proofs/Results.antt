@@ -1,7 +1,6 @@
 -- What a rule that gave a result was made of.
-use Rattle.std.proofs.Common.{◌≡◌, ◌+◌, ◌≤◌, ℕ, suc, List, [], ◌∷◌, length, Ok, Err, refl, sym, ap, subst, arith, All}
-use Rattle.std.specs.Prelude.{OnOk}
-use Rattle.smk_base.specs.{declared.book.catalog.Column.Column, declared.book.type_fault.TypeFault.TypeFault, declared.rel.TheConstants.COLUMN_LIMIT}
+use Rattle.std.proofs.Common.{◌≡◌, ◌+◌, ℕ, suc, List, [], ◌∷◌, length, Ok, Err, refl, ap, subst, arith, All}
+use Rattle.smk_base.specs.{declared.book.type_fault.TypeFault.TypeFault}
 use Rattle.smk_model.specs.Names.{Typed, ◌>>=◌, in_turn}
 pub use Rattle.smk_model.proofs.Rules.{made_of, ok_same, unless_ok}
 
@@ -29,12 +28,3 @@ in_turn_long size rule step a b (x ∷ xs) e =
 pub first_fails : {A B C : Type 0} (first : Typed A) (f : A → B) (g : A → C) (fault : TypeFault) → (let found : Typed B = first >>= (λ a. Ok (f a)) in found) ≡ Err fault → (let found : Typed C = first >>= (λ a. Ok (g a)) in found) ≡ Err fault
 first_fails (Ok a) f g fault e = absurd (cc e)
 first_fails (Err other) f g fault e = let same : other ≡ fault = cc e in rw same refl
-
--- the same columns are as few
-pub as_narrow : {A : Type 0} (r : Typed A) (new old : List Column) → OnOk r (new ≡ old) → length old ≤ COLUMN_LIMIT → OnOk r (length new ≤ COLUMN_LIMIT)
-as_narrow (Ok a) new old same few = subst (λ (columns : List Column). length columns ≤ COLUMN_LIMIT) (sym same) few
-as_narrow (Err fault) new old same few = tt
-
--- a result is no fault
-pub ok_never : {A B : Type 0} (a : A) (found : Typed B) (fault : TypeFault) → (let it : Typed A = Ok a in it) ≡ Err fault → found ≡ Err fault
-ok_never a found fault e = absurd (cc e)

@@ -1,20 +1,9 @@
-use Rattle.std.proofs.{Common.{◌∙◌, ◌++◌, ◌∷◌, [], List, Ok, map, sym, ap, refl, arith, length-append}, lemmas.List.map-append, lemmas.Result.err_from_is_err_and}
+use Rattle.std.proofs.{Common.{◌∙◌, ◌++◌, ◌∷◌, [], List, Ok, map, sym, ap, refl}, lemmas.List.map-append, lemmas.Result.err_from_is_err_and}
 use Rattle.smk_base.specs.{CatalogImage.{ViewImage, view_image}, TreeImage.tree_image}
 use Rattle.smk_model.specs.{Names.is_taken, Typing.typed_plan}
 use Rattle.smk_typing.specs.Drafts.{draft_image}
 use Rattle.smk_typing.proofs.{Keys.view_names, Results.{first_fails, made_of, ok_same}}
 use Rattle.smk_typing.proofs.book.statements.view_after.Goals as goal
-
-pub push-requires-clause-own : goal.push-requires-clause-own
-push-requires-clause-own c =
-    let first = made_of (typed_plan c.args.draft.now.tables (tree_image c.args.tree.now)) _ _ c.in_ok-view.ensures in
-    c.in_ok-key.ensures ∙ ap (λ (view : ViewImage). view.name) (ok_same _ _ first.2)
-
-pub push-requires-clause-fresh : goal.push-requires-clause-fresh
-push-requires-clause-fresh c = rw c.in_ok-key.ensures (sym c.has.ensures.has ∙ c.if-has.false)
-
-pub push-requires-clause-kept : goal.push-requires-clause-kept
-push-requires-clause-kept c = omega (arith, length-append c.args.draft.now.views (c.in_ok-view.view ∷ []))
 
 pub returns-then-has : goal.returns-then-has
 returns-then-has c _ = rw (ap (is_taken c.args.name.now.name) (view_names c.args.draft.now.views) ∙ sym c.has.ensures.has ∙ c.if-has.true) refl

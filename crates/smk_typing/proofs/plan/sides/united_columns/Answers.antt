@@ -1,8 +1,8 @@
-use Rattle.std.proofs.Common.{◌∙◌, ◌<◌, ◌∷◌, ◌++◌, [], List, map, take, get_or, length, arith, length-append, ap, sym, refl}
+use Rattle.std.proofs.Common.{◌∙◌, ◌<◌, ◌∷◌, ◌++◌, [], List, map, take, get_or, length, arith, length-append, ap, sym}
 use Rattle.std.specs.List.{zip}
 use Rattle.smk_base.specs.declared.book.catalog.Column.{Column}
 use Rattle.smk_model.specs.TypedSteps.{united_column}
-use Rattle.smk_typing.proofs.{Results.ok_same, Unions.{take_more_zip, take_all_zip}}
+use Rattle.smk_typing.proofs.{Results.ok_same, Unions.{take_more_zip}}
 use Rattle.smk_typing.proofs.plan.sides.united_columns.Goals as goal
 
 pub loop-place-preserved : goal.loop-place-preserved
@@ -15,6 +15,3 @@ loop-place-preserved c =
       pushed ∙ ap (λ (l : List Column). l ++ c.in_ok-column.column ∷ []) c.loop-place.invariant.0 ∙ ap (λ (k : Column). map united_column (take c.loop-place.place (zip c.args.lefts.now c.args.rights.now)) ++ k ∷ []) same ∙ sym more,
       omega (arith, ap length pushed, length-append {A = Column} c.loop-place.columns (c.in_ok-column.column ∷ [])),
     )
-
-pub returns-clause-columns : goal.returns-clause-columns
-returns-clause-columns c = rw (c.loop-place.invariant.0, take_all_zip c.args.lefts.now c.args.rights.now _ c.requires c.loop-place-test.false) refl
