@@ -1,5 +1,5 @@
 -- Results of jobs, in order.
-use Rattle.std.proofs.{Common.{◌≡◌, ◌∙◌, ℕ, suc, ◌+◌, ◌<◌, List, [], ◌∷◌, ◌++◌, Result, Ok, Err, length, take, drop, get_or, ap, sym, refl, subst, arith, drop-cons, take-append-drop, append-nil, length-append, IfOk, IfErr, ◌⊎◌, inl, inr, All}, lemmas.List.{take_more, append_assoc, get_or_append_left, get_or-append-add}, lemmas.Slice.Zip.all_zipped_more}
+use Rattle.std.proofs.{Common.{◌≡◌, ◌∙◌, ℕ, suc, ◌+◌, ◌<◌, List, [], ◌∷◌, ◌++◌, Result, Ok, Err, length, take, drop, get_or, ap, sym, refl, subst, arith, drop-cons, take-append-drop, length-append, IfOk, IfErr, ◌⊎◌, inl, inr, All}, lemmas.List.{take_more, append_assoc, get_or_append_left, get_or-append-add}, lemmas.Slice.Zip.all_zipped_more}
 use Rattle.std.specs.List.{AllZip}
 use Rattle.smk_jobs.specs.Jobs.{FirstFault}
 
@@ -98,8 +98,3 @@ pub group_told : {J T E : Type 0} (Gives : J → Result T E → Type 0) (Want : 
     → FirstFault Gives group e ⊎ Want e → FirstFault Gives jobs e ⊎ Want e
 group_told Gives Want jobs rest later group made e done cut (inl first) = inl (group_fault Gives jobs rest later group made e done cut first)
 group_told Gives Want jobs rest later group made e done cut (inr want) = inr want
-
--- all groups are done
-pub groups_done : {A B : Type 0} (R : A → B → Type 0) (jobs rest : List A) (made : List B) → (before : List A) × (before ++ rest ≡ jobs) × AllZip R before made → length rest ≡ 0 → AllZip R jobs made
-groups_done R jobs [] made (before, is, done) none = subst (λ l. AllZip R l made) (sym (append-nil before) ∙ is) done
-groups_done R jobs (x ∷ xs) made all none = absurd (omega (arith, none))
