@@ -93,10 +93,6 @@ ok_gives (Err y) e p = cc e
 pub says_same : (page : Page) (text : List ℕ) (fields same : List (List ℕ)) → fields ≡ same → Says page text fields → Says page text same
 says_same page text fields same e says = subst (λ (x : List (List ℕ)). Says page text x) e says
 
--- no bytes, and bytes behind bytes
-pub adds_none : (page : Page) → Adds page page []
-adds_none page text says = subst (λ (t : List ℕ). Says page t []) (sym (append-nil text)) says
-
 pub adds_then : (old mid new : Page) (first last : List ℕ) → Adds old mid first → Adds mid new last → Adds old new (first ++ last)
 adds_then old mid new first last one two text says = subst (λ (t : List ℕ). Says new t []) (append_assoc text first last) (two (text ++ first) (one text says))
 

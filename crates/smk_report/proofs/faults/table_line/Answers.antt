@@ -1,11 +1,6 @@
 use Rattle.std.proofs.Common.{IsSome}
 use Rattle.smk_report.proofs.faults.table_line.Goals as goal
 
-pub returns-in-MissingColumn : goal.returns-in-MissingColumn
-returns-in-MissingColumn c column is shown =
-    let named : IsSome column = rw c.in-MissingColumn.is at is in
-    rw (c.in-MissingColumn.is, ← shown named) c.pair_text.ensures
-
 pub returns-in-RepeatedColumn : goal.returns-in-RepeatedColumn
 returns-in-RepeatedColumn c column is shown =
     let named : IsSome column = rw c.in-RepeatedColumn.is at is in
@@ -13,8 +8,3 @@ returns-in-RepeatedColumn c column is shown =
 
 pub returns-in-Ragged : goal.returns-in-Ragged
 returns-in-Ragged c column is shown = rw c.in-Ragged.is c.line_around.ensures
-
-pub returns-in-BadInt : goal.returns-in-BadInt
-returns-in-BadInt c column is shown =
-    let named : IsSome column = rw c.in-BadInt.is at is in
-    rw (c.in-BadInt.is, ← shown named) c.line_around-in-BadInt.ensures

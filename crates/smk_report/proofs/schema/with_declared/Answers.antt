@@ -1,10 +1,7 @@
 use Rattle.std.proofs.Common.{map, take}
 use Rattle.smk_model.specs.{OwnTexts.column_record, Typing.column_of}
-use Rattle.smk_report.proofs.{PageTexts.adds_none, Parts.{adds_pushed, mapped_more}}
+use Rattle.smk_report.proofs.{Parts.{adds_pushed, mapped_more}}
 use Rattle.smk_report.proofs.schema.with_declared.Goals as goal
-
-pub loop-declared-init : goal.loop-declared-init
-loop-declared-init c = adds_none _
 
 pub loop-declared-preserved : goal.loop-declared-preserved
 loop-declared-preserved c =

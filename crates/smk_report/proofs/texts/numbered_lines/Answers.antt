@@ -1,10 +1,7 @@
 use Rattle.std.proofs.{Common.{◌+◌, [], drop, sym}, lemmas.List.get_or-drop}
 use Rattle.smk_report.specs.PieceTexts.{number_in}
-use Rattle.smk_report.proofs.{PageTexts.adds_none, Parts.lines_added}
+use Rattle.smk_report.proofs.{Parts.lines_added}
 use Rattle.smk_report.proofs.texts.numbered_lines.Goals as goal
-
-pub loop-k-init : goal.loop-k-init
-loop-k-init c = adds_none _
 
 pub loop-k-preserved : goal.loop-k-preserved
 loop-k-preserved c =
