@@ -176,9 +176,6 @@ list_ends (of member) r xs ys x a b h e here n p =
     h ∙ ap (λ q. before xs (then q (λ x b. before (x ∷ []) (reads (More member (length xs + 1)) b)))) e
     ∙ ap (λ q. before xs (before (x ∷ []) q)) (reading (More member (length xs + 1)) b here ∙ ap (goes b) (more_none member (length xs + 1) b.counts (head_of b.rest) (head_of b.rest).kind n)) ∙ ap (λ l. Ok (l, b)) (sym p)
 
-pub list_fails : {T : Type 0} (rule : MemberRule T) (r : Reading (List T)) (xs : List T) (k : ℕ) (a : Configuration) (f : BookFault) → r ≡ before xs (reads_rest rule k a) → reads_one rule k a ≡ Err f → r ≡ Err f
-list_fails rule r xs k a f h e = h ∙ ap (λ q. before xs (then q (λ x b. before (x ∷ []) (reads_more rule (k + 1) b)))) e
-
 pub list_smaller : {T : Type 0} (rule : MemberRule T) (k : ℕ) (c : PlanCounts) (a b d : Configuration) (x : T) → reads_one rule k a ≡ Ok (x, b) → Advances c b d → length d.rest < length a.rest
 list_smaller (of member) k c a b d x e h = behind_smaller (One member k) c a b d x e h
 
@@ -211,12 +208,6 @@ stmt_answers {X} image t u kind rule a b e r k is fine here moved tallied = by r
     by : (r : Result X BookFault) → Answers (runs (rule (head_of a.rest)) b) image e r → StmtReads image t u a e r
     by (Ok x) h = let n = ap length moved.first in let l = fewer_run (rule (head_of a.rest)) b e (image x) h in (reads_so ∙ ap (λ q. then q (λ s c. before (s ∷ []) (reads (AStmts (tally_of u)) c))) h, omega (arith, n, l))
     by (Err f) h = λ m. reads_so ∙ ap (λ q. then q (λ s c. before (s ∷ []) (reads (AStmts (tally_of u)) c))) (h m)
-
--- a line behind its keyword
-pub any_answers : {X : Type 0} (image : X → AnyLineImage) (rule : Token → Rule AnyLineImage) (a b e : Configuration) (r : Result X BookFault) → any_rule (head_of a.rest).kind ≡ Some rule → Here a → Advances a.counts a b → Answers (runs (rule (head_of a.rest)) b) image e r → Answers (reads AnyLine a) image e r
-any_answers image rule a b e r is here moved =
-    let t = head_of a.rest in
-    subst (λ q. Answers q image e r) (sym (reading AnyLine a here ∙ ap (goes a) (ap (opened t true (Fine a.counts) None) is) ∙ ap (λ (d : Configuration). runs (rule t) d) (sym (advanced a.counts a b moved))))
 
 -- a step behind its keyword
 placed_reads : (symbol : Symbol) (make : ℕ → StepImage → Tree symbol) (rule : Rule StepImage) (a b : Configuration) → move_of limits symbol a.counts (head_of a.rest) ≡ opened (head_of a.rest) true (node_count a.counts) None (with_place make (Some rule)) → a.counts.nodes < NODE_LIMIT → Here a → Advances (node_more a.counts) a b → reads symbol a ≡ then (runs rule b) (λ s c. Ok (make (head_of a.rest).at s, c))

@@ -1,16 +1,6 @@
-use Rattle.std.proofs.{Common.{◌≡◌, sym, subst, rules, arith}, lemmas.{Int.ints, Grind.common_steps, Result.err_from_is_err_and}}
-use Rattle.std.specs.Prelude.{Ok}
-use mir.{Val.to_z, Val.of_z, Syntax.w64}
-use Rattle.smk_base.specs.declared.book.tree.ItemTree.TheVariants as items
-use Rattle.smk_parse.{specs.Vocabulary.OutputItem, specs.Vocabulary.One, specs.Vocabulary.reads, proofs.Steps.in_order}
+use Rattle.std.proofs.{Common.{arith}, lemmas.{Result.err_from_is_err_and}}
+use Rattle.smk_parse.{proofs.Steps.in_order}
 use Rattle.smk_parse.proofs.lists.bin_item.Goals as goal
-
-pub returns : goal.returns
-returns c =
-    let low = c.in_ok-width.ensures.low in
-    let high = c.in_ok-width.ensures.high in
-    let e : to_z w64 (of_z w64 c.in_ok-width.width) ≡ c.in_ok-width.width = first_of (search rules, omega (arith, ints), grind (arith, common_steps)) in
-    subst (λ n. reads (One OutputItem c.args.before) c.args.reader.now ≡ Ok (items.Bin c.in_ok-col.col n c.in_ok-name.name, c.column-2.new.reader)) (sym e) (grind (arith, in_order))
 
 pub returns-in_err-expect : goal.returns-in_err-expect
 returns-in_err-expect c = grind (arith, in_order)

@@ -1,6 +1,6 @@
-use Rattle.std.specs.Prelude.{Ok, Err, false}
-use Rattle.std.proofs.{Common.{◌≡◌, ◌∙◌, length, sym, subst}, lemmas.Result.err_from_is_err_and}
-use Rattle.smk_parse.{specs.Reads.is_memory, specs.Reads.reads_one, specs.Reads.reads_list, specs.Reads.before, proofs.Steps.reads_rest, proofs.Steps.list_begins, proofs.Steps.list_goes, proofs.Steps.list_ends, proofs.Steps.list_fails, proofs.Steps.list_smaller}
+use Rattle.std.specs.Prelude.{Ok}
+use Rattle.std.proofs.{Common.{◌≡◌, ◌∙◌, length, sym, subst}}
+use Rattle.smk_parse.{specs.Reads.reads_one, specs.Reads.reads_list, specs.Reads.before, proofs.Steps.reads_rest, proofs.Steps.list_begins, proofs.Steps.list_goes, proofs.Steps.list_ends, proofs.Steps.list_smaller}
 use Rattle.smk_parse.proofs.lists.listed.Goals as goal
 
 pub members-init : goal.members-init
@@ -11,11 +11,6 @@ members-preserved g c = list_goes g.M.Member.rule _ c.members.list c.push.new.se
 
 pub members-smaller : goal.members-smaller
 members-smaller g c = list_smaller g.M.Member.rule _ _ c.members.reader c.read.new.reader c.advance.new.self c.in_ok-next.next c.in_ok-next.ensures c.advance.ensures
-
-pub returns-in_err-next : goal.returns-in_err-next
-returns-in_err-next g c =
-    let p = err_from_is_err_and c.from_residual.result c.from_residual.ensures.1 in
-    rw (p.1, p.2) (λ m. list_fails g.M.Member.rule _ c.members.list (length c.members.list) c.members.reader _ c.members.invariant (subst (λ xs. is_memory c.in_err-next.field-0.0 ≡ false → reads_one g.M.Member.rule (length xs) c.members.reader ≡ Err c.in_err-next.field-0.0) c.as_slice-before.ensures c.in_err-next.ensures m))
 
 pub returns-in_default : goal.returns-in_default
 returns-in_default g c = list_ends g.M.Member.rule _ c.members.list c.push.new.self c.in_ok-next.next c.members.reader c.read.new.reader c.members.invariant (subst (λ xs. reads_one g.M.Member.rule (length xs) c.members.reader ≡ Ok (c.in_ok-next.next, c.read.new.reader)) c.as_slice-before.ensures c.in_ok-next.ensures) c.kind.ensures.here (λ e. c.in_default.not-Comma (c.kind.ensures.is ∙ e)) c.in_ok-push.ensures.pushed

@@ -7,6 +7,3 @@ returns-in_err-op c = λ d. grind (arith, in_order)
 
 pub returns-in_err-right : goal.returns-in_err-right
 returns-in_err-right c = λ d. grind (arith, common_steps, in_order)
-
-pub returns : goal.returns
-returns c = λ d. grind (arith, in_order)
