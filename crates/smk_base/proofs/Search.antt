@@ -1,5 +1,5 @@
 -- The first place at which a test passes, looked for item by item.
-use Rattle.std.proofs.{Common.{◌≡◌, ◌∙◌, ℕ, ◌+◌, ◌<◌, ◌≤◌, Bool, true, not, List, length, drop, get_or, position, Some, None, refl, ap, arith}, lemmas.Bool.{lt-ltb, le-ltb}, lemmas.List.Sums.{prefix_len-drop_no}}
+use Rattle.std.proofs.{Common.{◌≡◌, ◌∙◌, ℕ, ◌+◌, ◌<◌, ◌≤◌, Bool, true, not, List, length, drop, get_or, position, Some, None, refl, ap, arith}, lemmas.Bool.{lt-ltb, le-ltb}, lemmas.List.Sums.prefix_len-drop_no}
 use Rattle.std.specs.List.{position_or_len}
 
 pub place_found : {X : Type 0} (p : X → Bool) (xs : List X) (i : ℕ) (d : X) → i < length xs → p (get_or xs i d) ≡ true → position_or_len p xs ≡ i + position_or_len p (drop i xs) → position p xs ≡ Some i

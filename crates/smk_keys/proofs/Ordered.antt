@@ -1,5 +1,5 @@
 -- Numbers that come in order are their own classes.
-use Rattle.std.proofs.{Common.{◌≡◌, ℕ, List, length, nat_eq, refl}}
+use Rattle.std.proofs.Common.{◌≡◌, ℕ, List, length, nat_eq, refl}
 use Rattle.std.specs.Cmp.{unsigned_Decides}
 use Rattle.smk_keys.specs.{Classes.{ClassesImage, classing_of}, Orders.IsInOrder}
 use Rattle.smk_keys.proofs.Classing.{classing-classes}

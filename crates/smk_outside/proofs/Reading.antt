@@ -2,7 +2,7 @@
 use Rattle.std.proofs.{Common.{◌≡◌, ◌≢◌, ◌≤◌, ◌<◌, ◌+◌, ◌-◌, ◌⊎◌, inl, inr, ℕ, Bool, true, false, eqb, cond, nat_lt, ◌&&◌, List, [], ◌∷◌, ◌++◌, All, Option, None, Some, IfSome, Result, Ok, Err, length, take, get_or, replicate, IfOk, refl, sym, ap, subst, ◌∙◌, arith, append_assoc, append-nil, length-append, length-take-le, get_or-take, eq-eqb, eqb-true}, lemmas.List.Elements.{All-nil, All-more, All-push}, lemmas.List.{get_or_push, length-replicate}, Math.Seq.take-append_seam}
 use borrow.Author.Tests.{ltb-true, lt-ltb}
 use Rattle.std.specs.{Io.StartsWith, Io.KnownBytes.{Keeps, Consumes}, Io.BufRead.{take_through, drop_through, strip_last, ends_with_byte, DropsConsumable, DropsThrough}, Option.option_map}
-use Rattle.std.proofs.{KnownBytes.{Appends-nil}, BufReadLemmas.{take_through-append, drop_through-append, take_through-nil, Consumes_shown, Consumes_through, zero_unless_positive}, Transfers.StopsAt-take}
+use Rattle.std.proofs.{KnownBytes.Appends-nil, BufReadLemmas.{take_through-append, drop_through-append, take_through-nil, Consumes_shown, Consumes_through, zero_unless_positive}, Transfers.StopsAt-take}
 use Rattle.smk_outside.specs.{declared.talk.heard.Heard.Heard, declared.talk.heard.Heard.TheVariants.{Line, Long, End}, declared.talk.heard.TalkFault.TalkFault, declared.talk.heard.TalkFault.TheVariants.{Failed, NoMemory}, Told.{Told, AreFirst, says}, Saying.SaysFront, Hearing.Gives, StreamSink.AppendsKnownPart, StreamTalk.{without_end, first_line, later_lines, lines_after, lines_of, IsShort, HearsBytes, IsHeard, TakesFront, AreTaken, SomeTaken}}
 use Rattle.std.specs.Io.KnownBytes as known
 

@@ -2,8 +2,8 @@
 use Rattle.std.proofs.{Common.{◌≡◌, ◌∙◌, ◌+◌, ◌<◌, ◌≤◌, ℕ, suc, Bool, List, ◌∷◌, map, drop, length, get_or, Ok, refl, sym, ap, subst, arith}, lemmas.List.{drop_more, at_drop_all}, lemmas.List.Sums.sum_by-cons}
 use Rattle.std.specs.Prelude.{count_by}
 use Rattle.smk_base.specs.{CatalogImage.CatalogImage, TreeImage.stmt_image, Trees.StmtImage, declared.book.tree.Stmt.Stmt}
-use Rattle.smk_model.specs.{Expanded.{IsNoDependency}, Limits.{KeepsStmt, is_table, is_view}, Names.in_turn, Typing.{types, stmt_after}}
-use Rattle.smk_typing.specs.{Rest.{IsBefore, one_if}}
+use Rattle.smk_model.specs.{Expanded.IsNoDependency, Limits.{KeepsStmt, is_table, is_view}, Names.in_turn, Typing.{types, stmt_after}}
+use Rattle.smk_typing.specs.Rest.{IsBefore, one_if}
 use Rattle.smk_typing.proofs.CatalogsFit.{stmt_kept}
 
 counted : (p : StmtImage → Bool) (s : StmtImage) (more : List StmtImage) → count_by p (s ∷ more) ≡ one_if (p s) + count_by p more

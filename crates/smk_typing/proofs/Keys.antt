@@ -1,5 +1,5 @@
 -- Declarations by their keys.
-use Rattle.std.proofs.{Common.{◌≡◌, ◌∙◌, ℕ, Bool, ◌&&◌, nat_eq, false, Ok, List, [], ◌∷◌, ◌++◌, map, refl, sym, ap}}
+use Rattle.std.proofs.Common.{◌≡◌, ◌∙◌, ℕ, Bool, ◌&&◌, nat_eq, false, Ok, List, [], ◌∷◌, ◌++◌, map, refl, sym, ap}
 use Rattle.std.specs.List.{list_any}
 use Rattle.smk_base.specs.{declared.book.catalog.ViewInfo.ViewInfo, declared.book.catalog.Back.Back, declared.book.catalog.BackExtra.BackExtra, declared.book.catalog.BackExtra.TheVariants.{Plain, By, Grouped}, declared.book.catalog.Fwd.Fwd, declared.book.catalog.LinkInfo.LinkInfo, declared.book.tree.Word.Word, declared.book.type_fault.TypeFault.TheVariants.RepeatedDeclaration, CatalogImage.view_image}
 use Rattle.smk_model.specs.{Names.unless, Typing.{Link, same_form, same_back, same_fwd, same_link, all_links, linked_to, view_by_word, to_after}}

@@ -1,6 +1,6 @@
 -- What a rule that gave a result was made of.
 use Rattle.std.proofs.Common.{◌≡◌, ◌+◌, ℕ, suc, List, [], ◌∷◌, length, Ok, Err, refl, ap, subst, arith, All}
-use Rattle.smk_base.specs.{declared.book.type_fault.TypeFault.TypeFault}
+use Rattle.smk_base.specs.declared.book.type_fault.TypeFault.{TypeFault}
 use Rattle.smk_model.specs.Names.{Typed, ◌>>=◌, in_turn}
 pub use Rattle.smk_model.proofs.Rules.{made_of, ok_same, unless_ok}
 

@@ -1,4 +1,4 @@
-use Rattle.std.proofs.{Common.{arith}, lemmas.{Result.err_from_is_err_and}}
+use Rattle.std.proofs.{Common.arith, lemmas.Result.err_from_is_err_and}
 use Rattle.smk_parse.{proofs.Steps.in_order}
 use Rattle.smk_parse.proofs.lists.bin_item.Goals as goal
 

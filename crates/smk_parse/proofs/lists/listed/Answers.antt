@@ -1,5 +1,5 @@
 use Rattle.std.specs.Prelude.{Ok}
-use Rattle.std.proofs.{Common.{◌≡◌, ◌∙◌, length, sym, subst}}
+use Rattle.std.proofs.Common.{◌≡◌, ◌∙◌, length, sym, subst}
 use Rattle.smk_parse.{specs.Reads.reads_one, specs.Reads.reads_list, specs.Reads.before, proofs.Steps.reads_rest, proofs.Steps.list_begins, proofs.Steps.list_goes, proofs.Steps.list_ends, proofs.Steps.list_smaller}
 use Rattle.smk_parse.proofs.lists.listed.Goals as goal
 

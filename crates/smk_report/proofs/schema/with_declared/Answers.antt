@@ -1,6 +1,6 @@
 use Rattle.std.proofs.Common.{map, take}
 use Rattle.smk_model.specs.{OwnTexts.column_record, Typing.column_of}
-use Rattle.smk_report.proofs.{Parts.{adds_pushed, mapped_more}}
+use Rattle.smk_report.proofs.Parts.{adds_pushed, mapped_more}
 use Rattle.smk_report.proofs.schema.with_declared.Goals as goal
 
 pub loop-declared-preserved : goal.loop-declared-preserved

@@ -1,6 +1,6 @@
 use Rattle.std.proofs.{Common.{◌+◌, [], drop, sym}, lemmas.List.get_or-drop}
 use Rattle.smk_report.specs.PieceTexts.{number_in}
-use Rattle.smk_report.proofs.{Parts.lines_added}
+use Rattle.smk_report.proofs.Parts.{lines_added}
 use Rattle.smk_report.proofs.texts.numbered_lines.Goals as goal
 
 pub loop-k-preserved : goal.loop-k-preserved

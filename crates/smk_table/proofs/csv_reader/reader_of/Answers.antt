@@ -1,4 +1,4 @@
-use Rattle.std.proofs.{Common.{◌≡◌, ◌∙◌, Some, ap}}
+use Rattle.std.proofs.Common.{◌≡◌, ◌∙◌, Some, ap}
 use Rattle.smk_table.specs.CsvReader.{records_after, text_left}
 use Rattle.smk_table.proofs.RecordsAfter.{strip_bom-none, records_left_is}
 use Rattle.smk_table.proofs.csv_reader.reader_of.Goals as goal

@@ -1,5 +1,5 @@
-use Rattle.std.proofs.{Common.{map}}
-use Rattle.smk_base.specs.{TreeImage.stmt_image}
+use Rattle.std.proofs.Common.{map}
+use Rattle.smk_base.specs.TreeImage.{stmt_image}
 use Rattle.smk_typing.proofs.Books.{at_next, next_kept, next_replaced, rest_at}
 use Rattle.smk_typing.proofs.book.add_each.Goals as goal
 

@@ -1,4 +1,4 @@
-use Rattle.std.proofs.{Common.{◌≡◌, ◌∙◌, ◌<◌, ◌+◌, ◌++◌, ◌∷◌, [], ℕ, get_or, length, take, refl, arith}}
+use Rattle.std.proofs.Common.{◌≡◌, ◌∙◌, ◌<◌, ◌+◌, ◌++◌, ◌∷◌, [], ℕ, get_or, length, take, refl, arith}
 use Rattle.std.specs.List.{filter}
 use Rattle.smk_base.specs.Places.{has}
 use Rattle.smk_rid.proofs.{Intersecting.{common_more, common_same, less_here, passed_next}, derive.intersect.passed_of.Goals.{then-is_at+in_ok-push, else-is_at}}

@@ -1,4 +1,4 @@
-use Rattle.std.proofs.{Common.{arith, length, ap}}
+use Rattle.std.proofs.Common.{arith, length, ap}
 use Rattle.smk_rid.proofs.{Codes.{one_none, one_some, pairs_more}, hold.code.count_before.Goals.{then-number, else-number}}
 use Rattle.smk_rid.proofs.hold.code.count_before.Goals as goal
 

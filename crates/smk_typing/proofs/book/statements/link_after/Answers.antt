@@ -1,4 +1,4 @@
-use Rattle.std.proofs.{Common.{◌∙◌, [], List, Ok, ap, sym}}
+use Rattle.std.proofs.Common.{◌∙◌, [], List, Ok, ap, sym}
 use Rattle.smk_base.specs.declared.book.catalog.LinkInfo.{LinkInfo}
 use Rattle.smk_model.specs.{Names.in_turn, Typing.to_after}
 use Rattle.smk_typing.specs.Drafts.{draft_image}

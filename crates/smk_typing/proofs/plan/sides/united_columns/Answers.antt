@@ -2,7 +2,7 @@ use Rattle.std.proofs.Common.{◌∙◌, ◌<◌, ◌∷◌, ◌++◌, [], List,
 use Rattle.std.specs.List.{zip}
 use Rattle.smk_base.specs.declared.book.catalog.Column.{Column}
 use Rattle.smk_model.specs.TypedSteps.{united_column}
-use Rattle.smk_typing.proofs.{Results.ok_same, Unions.{take_more_zip}}
+use Rattle.smk_typing.proofs.{Results.ok_same, Unions.take_more_zip}
 use Rattle.smk_typing.proofs.plan.sides.united_columns.Goals as goal
 
 pub loop-place-preserved : goal.loop-place-preserved

@@ -1,4 +1,4 @@
-use Rattle.std.proofs.{Common.{rules}}
+use Rattle.std.proofs.Common.{rules}
 use Rattle.smk_outside.proofs.Parts.{appends_front}
 use Rattle.smk_outside.proofs.sink.mem_sink.MemSinkSink.put.Goals as goal
 
