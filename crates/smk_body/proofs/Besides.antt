@@ -1,7 +1,6 @@
 -- Rows column by column.
 use Rattle.std.proofs.{Common.{◌≡◌, ◌∙◌, ◌<◌, ◌+◌, ℕ, List, [], ◌∷◌, ◌++◌, length, map, take, refl, sym, ap, get_or, append_assoc}, lemmas.List.map_more}
 use Rattle.smk_base.specs.{declared.value.Value.Value, declared.value.Kind.Kind, Rels.{Relation, beside_rows}}
-use Rattle.smk_base.specs.declared.value.Kind.TheVariants as kinds
 use Rattle.smk_model.specs.Values.{Row}
 
 abbrev pub relation : List Kind → List Row → Relation

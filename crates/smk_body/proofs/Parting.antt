@@ -1,12 +1,12 @@
 -- Columns and aggregates that are made in halves.
-use Rattle.std.proofs.{Common.{◌≡◌, ◌∙◌, ◌<◌, ◌≤◌, ◌+◌, ℕ, List, [], ◌∷◌, ◌++◌, length, map, take, drop, refl, sym, ap, arith, All, get_or}, lemmas.List.{map-append, length-map, length-append, get_or-map}, lemmas.List.Elements.{All-map, All-take, All-drop, All-weaker}, lemmas.Slice.Zip.AllZip-long}
+use Rattle.std.proofs.{Common.{◌≡◌, ◌∙◌, ◌<◌, ◌≤◌, ◌+◌, ℕ, List, [], ◌∷◌, ◌++◌, length, map, refl, sym, ap, arith, All, get_or}, lemmas.List.{map-append, length-map, length-append, get_or-map}, lemmas.List.Elements.{All-map, All-weaker}, lemmas.Slice.Zip.AllZip-long}
 use Rattle.std.specs.List.{AllZip}
 use Rattle.smk_base.specs.{declared.book.plan.Agg.Agg, declared.value.Kind.TheVariants.{Int, Text}, declared.value.Kind.Kind, declared.value.Value.Value, Places.upto, Rels.{IsWider, Relation, Fits, RowFits, beside_rows, picked, row_in, rows_at}}
 use Rattle.smk_keys.specs.Classes.{ClassesImage, classes_of}
-use Rattle.smk_model.specs.{Values.Row, Plain.{aggregate, firsts, grouped, key_of}, Lineage.{row_at, sub}, Kinds.AggFits}
+use Rattle.smk_model.specs.{Values.Row, Plain.{aggregate, firsts, grouped, key_of}, Lineage.{row_at, sub}}
 use Rattle.smk_base.proofs.Places.{length_upto, map_map, map_upto, upto_below}
 use Rattle.smk_model.proofs.{Bulk.bulk, Directions.length_each}
-use Rattle.smk_body.specs.{Halves.{AreNumbered, class_places}, Parts.{AreAggsOf, ArePlacesOf, aggregates_of, columns_of}}
+use Rattle.smk_body.specs.{Halves.{AreNumbered, class_places}, Parts.{ArePlacesOf, aggregates_of, columns_of}}
 use Rattle.smk_body.proofs.{Besides.{relation, related, beside_each, map_same}, Aggregating.{groups_are, map_where}}
 
 -- no kind is narrower than itself
@@ -28,14 +28,6 @@ pub table_beside : {X Y : Type 0} (K : X → Kind) (V : Y → X → Value) (ys :
     → relation (left.kinds ++ right.kinds) (beside_rows left.rows right.rows) ≡ table K V ys xs
 table_beside K V ys xs low high left right e l r = rw (e, l, r) (related (sym (map-append K low high))
     (beside_each (λ y. map (V y) low) (λ y. map (V y) high) ys ∙ map_same (λ y. map (V y) low ++ map (V y) high) (λ y. map (V y) (low ++ high)) ys (λ y. sym (map-append (V y) low high))))
-
-pub table_long : {X Y : Type 0} (K : X → Kind) (V : Y → X → Value) (ys : List Y) (low high : List X) (left right : Relation) → left ≡ table K V ys low → right ≡ table K V ys high → length left.rows ≡ length right.rows
-table_long K V ys low high left right l r =
-    ap (λ (z : Relation). length z.rows) l ∙ length-map ys (λ y. map (V y) low) ∙ sym (ap (λ (z : Relation). length z.rows) r ∙ length-map ys (λ y. map (V y) high))
-
-pub table_few : {X Y : Type 0} (K : X → Kind) (V : Y → X → Value) (ys : List Y) (xs low high : List X) (left right : Relation) → xs ≡ low ++ high → length xs ≤ 16 → left ≡ table K V ys low → right ≡ table K V ys high → length left.kinds + length right.kinds ≤ 16
-table_few K V ys xs low high left right e few l r =
-    omega (arith, ap length e, length-append low high, few, ap (λ (z : Relation). length z.kinds) l, length-map low K, ap (λ (z : Relation). length z.kinds) r, length-map high K)
 
 -- columns of rows at places
 pub columns_at_places : (rel : Relation) (places cols : List ℕ) → All (λ place. place < length rel.rows) places → rows_at (map (picked cols) rel.rows) places ≡ (columns_of rel places cols).rows
@@ -59,53 +51,6 @@ all_places rel places cols n e long few within fewer = record {
   few_columns = omega (arith, ap length e, length_upto n, long, few);
   within = within;
   few = fewer;
-}
-
--- halves of places, of columns and of aggregates
-pub lower_places : {rel : Relation} {places low cols : List ℕ} {n : ℕ} (high : List ℕ) → low ≡ take n places → length low ≡ n → length high + n ≡ length places → ArePlacesOf rel places cols → ArePlacesOf rel low cols
-lower_places {rel} {places} {low} {cols} {n} high e long all are = record {
-  columns = are.columns;
-  few_columns = are.few_columns;
-  within = rw e (All-take (λ place. place < length rel.rows) n places are.within);
-  few = omega (arith, long, all, are.few);
-}
-
-pub upper_places : {rel : Relation} {places high cols : List ℕ} (n : ℕ) → high ≡ drop n places → length high + n ≡ length places → ArePlacesOf rel places cols → ArePlacesOf rel high cols
-upper_places {rel} {places} {high} {cols} n e long are = record {
-  columns = are.columns;
-  few_columns = are.few_columns;
-  within = rw e (All-drop (λ place. place < length rel.rows) n places are.within);
-  few = omega (arith, long, are.few);
-}
-
-pub lower_columns : {rel : Relation} {places cols low : List ℕ} {n : ℕ} (high : List ℕ) → low ≡ take n cols → length low ≡ n → length high + n ≡ length cols → ArePlacesOf rel places cols → ArePlacesOf rel places low
-lower_columns {rel} {places} {cols} {low} {n} high e long all are = record {
-  columns = rw e (All-take (λ c. c < length rel.kinds) n cols are.columns);
-  few_columns = omega (arith, long, all, are.few_columns);
-  within = are.within;
-  few = are.few;
-}
-
-pub upper_columns : {rel : Relation} {places cols high : List ℕ} (n : ℕ) → high ≡ drop n cols → length high + n ≡ length cols → ArePlacesOf rel places cols → ArePlacesOf rel places high
-upper_columns {rel} {places} {cols} {high} n e long are = record {
-  columns = rw e (All-drop (λ c. c < length rel.kinds) n cols are.columns);
-  few_columns = omega (arith, long, are.few_columns);
-  within = are.within;
-  few = are.few;
-}
-
-pub lower_aggs : {rel : Relation} {classes : ClassesImage} {aggs low : List Agg} {n : ℕ} (high : List Agg) → low ≡ take n aggs → length low ≡ n → length high + n ≡ length aggs → AreAggsOf rel classes aggs → AreAggsOf rel classes low
-lower_aggs {rel} {classes} {aggs} {low} {n} high e long all are = record {
-  numbered = are.numbered;
-  each = rw e (All-take (AggFits rel.kinds) n aggs are.each);
-  few = omega (arith, long, all, are.few);
-}
-
-pub upper_aggs : {rel : Relation} {classes : ClassesImage} {aggs high : List Agg} (n : ℕ) → high ≡ drop n aggs → length high + n ≡ length aggs → AreAggsOf rel classes aggs → AreAggsOf rel classes high
-upper_aggs {rel} {classes} {aggs} {high} n e long are = record {
-  numbered = are.numbered;
-  each = rw e (All-drop (AggFits rel.kinds) n aggs are.each);
-  few = omega (arith, long, are.few);
 }
 
 -- no more rows behind one another than places

@@ -1,5 +1,5 @@
 -- The lineage of a side from what the first half of a step found.
-use Rattle.std.proofs.{Common.{◌≡◌, ◌∙◌, ◌<◌, ◌≤◌, ◌+◌, ◌-◌, ℕ, List, ◌++◌, length, map, take, drop, refl, sym, ap, arith, All, subst, zero-add, Option, None, Some, []}, lemmas.List.{map-append, map-id, length-map, get_or_default}, lemmas.List.Elements.{All-take, All-drop}, Math.Seq.{take-append_seam, drop-append_seam}}
+use Rattle.std.proofs.{Common.{◌≡◌, ◌∙◌, ◌<◌, ◌≤◌, ◌+◌, ◌-◌, ℕ, List, ◌++◌, length, map, take, drop, refl, sym, ap, arith, All, subst, zero-add, Option, None, Some}, lemmas.List.{map-append, map-id, length-map, get_or_default}, lemmas.List.Elements.{All-take, All-drop}, Math.Seq.{take-append_seam, drop-append_seam}}
 use Rattle.smk_base.specs.{Places.{Lists, upto, own_lists, inverted, IsPlaces}, declared.book.plan.Dir.Dir}
 use Rattle.smk_rid.proofs.Rising.{rising_is}
 use Rattle.smk_model.specs.{Values.Row, Plain.firsts, Locals.singles, Classes.{places_in, classes}, Ways.{Way, Targets, IsOf, back_of, fwd_of}}

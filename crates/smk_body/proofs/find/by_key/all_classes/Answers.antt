@@ -1,13 +1,10 @@
-use Rattle.std.proofs.{Common.{◌≡◌, ◌∙◌, ◌<◌, List, ℕ, All, length, map, get_or, ap, sym, subst, arith}, lemmas.List.length-map}
+use Rattle.std.proofs.{Common.{◌≡◌, ◌∙◌, ◌<◌, List, ℕ, All, length, map, get_or, ap, sym, subst}, lemmas.List.length-map}
 use Rattle.smk_base.specs.Rels.{Relation, row_in}
 use Rattle.smk_keys.specs.{Classes.{ClassesImage, classes_of}, Joined.numbers_from}
 use Rattle.smk_model.specs.Plain.{key_of}
 use Rattle.smk_body.specs.Renumbered.{StandFor}
 use Rattle.smk_body.proofs.Renumbering.{classes_long, first_classes, firsts_within, stand_classes, stand_numbers}
 use Rattle.smk_body.proofs.find.by_key.all_classes.Goals as goal
-
-pub joined-requires-clause-few : goal.joined-requires-clause-few
-joined-requires-clause-few g c = omega (arith, c.in_ok-places.ensures.keys, c.in_ok-places.ensures.numbers.few, c.len-rows.ensures.keeps.few_rows)
 
 pub joined-requires-clause-within : goal.joined-requires-clause-within
 joined-requires-clause-within g c =

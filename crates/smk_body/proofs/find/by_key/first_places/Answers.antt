@@ -1,4 +1,4 @@
-use Rattle.std.proofs.{Common.{◌≡◌, ap, length, map, subst, arith, take}, lemmas.List.take_all, lemmas.Grind.common_steps}
+use Rattle.std.proofs.{Common.{◌≡◌, ap, length, map, subst, arith, take}, lemmas.List.take_all}
 use Rattle.smk_model.specs.Plain.{key_of}
 use Rattle.smk_keys.specs.Joined.{numbers_from}
 use Rattle.smk_body.specs.Renumbered.{StandFor}
@@ -27,6 +27,3 @@ returns-clause-numbers c =
     let whole : take c.loop-p.p c.args.parts.now ≡ c.args.parts.now = take_all c.loop-p.p c.args.parts.now (omega (arith, all, c.requires.parts.0)) in
     subst (StandFor keys (length rows) places) (ap (numbers_from 0) whole)
     (subst (λ n. StandFor keys n places (numbers_from 0 (take c.loop-p.p c.args.parts.now))) (cut_end c.args.workers (length rows) c.loop-p.p c.requires.some all) c.loop-p.invariant.1)
-
-pub returns-clause-keys : goal.returns-clause-keys
-returns-clause-keys c = grind (arith, common_steps)

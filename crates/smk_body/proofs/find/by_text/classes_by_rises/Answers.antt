@@ -8,14 +8,6 @@ use Rattle.smk_jobs.proofs.Cutting.{cut_end, cut_within}
 use Rattle.smk_body.proofs.{Rising.{long, part_rises, rise_known, rise_new, text_classes-are}, find.by_text.classes_by_rises.Goals.{then-codes-place+in_ok-push, else-codes-place}}
 use Rattle.smk_body.proofs.find.by_text.classes_by_rises.Goals as goal
 
-pub bounds-codes-place : goal.bounds-codes-place
-bounds-codes-place c =
-    let L = c.args.rel.now.rows in
-    let p = c.loop-p.p in
-    let below : p < c.args.workers = omega (arith, c.loop-p-test.true, c.requires.parts.0) in
-    let so = part_rises (λ v. v.items) (codes_of L c.args.c) (length L) c.args.workers p c.args.parts.now c.index-parts-p.result c.as_slice-rises.result.now below c.requires.parts c.index-parts-p.is c.as_slice-rises.ensures.value in
-    omega (arith, so.below c.loop-place.place-index c.loop-place-test.true, cut_within c.args.workers (length L) (p + 1) (omega (arith, below)), long L c.args.c, ap length c.codes-codes.ensures.codes)
-
 pub loop-place-preserved : goal.loop-place-preserved
 loop-place-preserved c =
     let L = c.args.rel.now.rows in

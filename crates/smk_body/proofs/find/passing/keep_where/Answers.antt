@@ -1,4 +1,4 @@
-use Rattle.std.proofs.{Common.{◌≡◌, ◌∙◌, ◌+◌, ◌<◌, ℕ, Bool, All, true, false, length, take, slice_set, get_or, ap, sym, subst, arith}, lemmas.List.{length-set, drop-set-lt}, lemmas.List.Elements.All-get_or, lemmas.List.Filters.FiltersInPlace}
+use Rattle.std.proofs.{Common.{◌≡◌, ◌∙◌, ◌+◌, ◌<◌, ℕ, Bool, All, length, take, slice_set, get_or, ap, sym, subst, arith}, lemmas.List.{length-set, drop-set-lt}, lemmas.List.Elements.All-get_or, lemmas.List.Filters.FiltersInPlace}
 use Rattle.smk_body.proofs.{Comparing.{next_same, rest_same, front_kept, front_left}, find.passing.keep_where.Goals.{then-test, else-test}}
 use Rattle.smk_body.proofs.find.passing.keep_where.Goals as goal
 

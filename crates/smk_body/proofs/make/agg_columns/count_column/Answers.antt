@@ -12,12 +12,6 @@ of_counts-requires-clause-few c =
     let known : c.in-Some.known.now ≡ class_sizes classes = rw c.in-Some.is at c.requires.sizes in
     omega (arith, ap length known, length_each (λ (p : ℕ). length (class_places classes.of (length classes.of) p)) (length classes.firsts), c.requires.classes.few, c.requires.few)
 
-pub returns-in-Some : goal.returns-in-Some
-returns-in-Some c =
-    let classes = c.args.classes.now in
-    let known : c.in-Some.known.now ≡ class_sizes classes = rw c.in-Some.is at c.requires.sizes in
-    subst (λ (z : List ℕ). IfOk c.of_counts.result (λ made. made ≡ relation (kinds.Int 0 ∷ []) (map (λ size. values.Int (pos size) ∷ []) z))) known c.of_counts.ensures
-
 pub returns-in_ok-made-in-None : goal.returns-in_ok-made-in-None
 returns-in_ok-made-in-None c =
     let classes = c.args.classes.now in

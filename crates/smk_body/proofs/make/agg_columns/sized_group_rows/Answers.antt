@@ -1,8 +1,7 @@
-use Rattle.std.proofs.{Common.{◌≡◌, ◌∙◌, ◌+◌, ◌++◌, ◌∷◌, [], ℕ, List, length, map, take, ap, sym, arith, get_or, append_assoc}, lemmas.List.{map_more, length-map, length-append, length-take-le, take_all, append-nil}}
+use Rattle.std.proofs.{Common.{◌≡◌, ◌∙◌, ◌+◌, ◌++◌, ◌∷◌, [], ℕ, List, length, map, take, ap, sym, arith, get_or, append_assoc}, lemmas.List.{map_more, take_all, append-nil}}
 use Rattle.smk_base.specs.{declared.book.plan.Agg.TheVariants.Count, declared.book.plan.Agg.Agg, Places.upto, Rels.{Relation, kind_in, picked, rows_at, beside_rows}}
 use Rattle.smk_keys.specs.Classes.{ClassesImage}
 use Rattle.smk_model.specs.{Plain.{aggregate, key_of}, Lineage.{row_at, sub}, Kinds.kind_of_agg}
-use Rattle.smk_model.proofs.Directions.{length_each}
 use Rattle.smk_body.specs.Halves.{class_places}
 use Rattle.smk_body.proofs.{Classing.rows_numbered, Aggregating.{keys_at_firsts, groups_are}, Besides.{column_more, related}, Parting.first_places_are}
 use Rattle.smk_body.proofs.make.agg_columns.sized_group_rows.Goals as goal
@@ -22,23 +21,6 @@ loop-agg-init c =
     c.in_ok-made.ensures
     ∙ related (sym (append-nil (map (kind_in rel.kinds) keys)))
     (ap (λ (z : List ℕ). map (picked keys) (rows_at rel.rows z)) c.firsts.ensures ∙ keys_at_firsts keys rel.rows c.args.classes.now.firsts)
-
-pub beside-requires-clause-long : goal.beside-requires-clause-long
-beside-requires-clause-long c =
-    let rel = c.args.rel.now in
-    let aggs = c.args.aggs.now in
-    let classes = c.args.classes.now in
-    let k = c.loop-agg.agg-index in
-    let n = length classes.firsts in
-    ap (λ (r : Relation). length r.rows) c.loop-agg.invariant ∙ length_each (λ p. key_of c.args.keys.now (row_at rel.rows (get_or classes.firsts p 0)) ++ map (aggregate (sub rel.rows (class_places classes.of (length rel.rows) p))) (take k aggs)) n
-    ∙ sym (ap (λ (r : Relation). length r.rows) c.in_ok-column.ensures ∙ length_each (λ p. aggregate (sub rel.rows (class_places classes.of (length rel.rows) p)) (get_or aggs k Count) ∷ []) n)
-
-pub beside-requires-clause-few : goal.beside-requires-clause-few
-beside-requires-clause-few c =
-    let rel = c.args.rel.now in
-    let aggs = c.args.aggs.now in
-    let k = c.loop-agg.agg-index in
-    omega (arith, ap (λ (r : Relation). length r.kinds) c.loop-agg.invariant, length-append (map (kind_in rel.kinds) c.args.keys.now) (map (kind_of_agg rel.kinds) (take k aggs)), length-map c.args.keys.now (kind_in rel.kinds), length-map (take k aggs) (kind_of_agg rel.kinds), length-take-le k aggs (omega arith), ap (λ (r : Relation). length r.kinds) c.in_ok-column.ensures, c.requires.fits.few, c.loop-agg-test.true)
 
 pub loop-agg-preserved : goal.loop-agg-preserved
 loop-agg-preserved c =
@@ -71,11 +53,3 @@ returns-clause-rows c =
     let K = map (key_of keys) rel.rows in
     let one = λ (m : ClassesImage) (more : List Agg). map (λ p. key_of keys (row_at rel.rows (get_or m.firsts p 0)) ++ map (aggregate (sub rel.rows (class_places m.of (length rel.rows) p))) more) (upto (length m.firsts)) in
     ap (λ (r : Relation). r.rows) c.loop-agg.invariant ∙ ap (one c.args.classes.now) (take_all c.loop-agg.agg-index aggs c.loop-agg-test.false) ∙ ap (λ (m : ClassesImage). one m aggs) c.requires.classes ∙ groups_are keys aggs rel.rows
-
-pub returns-clause-kinds : goal.returns-clause-kinds
-returns-clause-kinds c =
-    let rel = c.args.rel.now in
-    ap (λ (r : Relation). r.kinds) c.loop-agg.invariant ∙ ap (λ (more : List Agg). map (kind_in rel.kinds) c.args.keys.now ++ map (kind_of_agg rel.kinds) more) (take_all c.loop-agg.agg-index c.args.aggs.now c.loop-agg-test.false)
-
-pub agg_column-requires-clause-sizes : goal.agg_column-requires-clause-sizes
-agg_column-requires-clause-sizes c = assumption

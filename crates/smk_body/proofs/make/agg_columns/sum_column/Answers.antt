@@ -1,14 +1,8 @@
-use Rattle.std.proofs.Common.{◌≡◌, ◌∙◌, ◌∷◌, [], suc, ℤ, length, map, ap, refl, arith}
+use Rattle.std.proofs.Common.{◌≡◌, ◌∙◌, ◌∷◌, [], suc, ℤ, length, map, ap, refl}
 use Rattle.smk_base.specs.{Rels.kind_in, declared.value.Kind.Kind}
 use Rattle.smk_base.specs.declared.value.Value.TheVariants as values
 use Rattle.smk_body.proofs.{Aggregating.{summed_rows, sums_within, level_of, sums_is, level_up}, Besides.{related, relation}}
 use Rattle.smk_body.proofs.make.agg_columns.sum_column.Goals as goal
-
-pub overflow_cast-count : goal.overflow_cast-count
-overflow_cast-count c = omega (arith, ap length c.firsts.ensures, c.requires.classes.few, c.len-rows.ensures.keeps.few_rows)
-
-pub of_ints-requires-clause-few : goal.of_ints-requires-clause-few
-of_ints-requires-clause-few c = omega (arith, c.in_ok-numbers.ensures.long, ap length c.firsts.ensures, c.requires.classes.few, c.len-rows.ensures.keeps.few_rows)
 
 pub of_ints-requires-clause-within : goal.of_ints-requires-clause-within
 of_ints-requires-clause-within c =
@@ -24,6 +18,3 @@ returns c =
     c.in_ok-made.ensures
     ∙ ap (λ (k : Kind). relation (k ∷ []) (map (λ (z : ℤ). values.Int z ∷ []) c.in_ok-numbers.numbers.items)) c.sum_level-level.ensures.level
     ∙ related refl (ap (map (λ (z : ℤ). values.Int z ∷ [])) (c.in_ok-numbers.ensures.sums ∙ sums_is rel.rows c.args.c classes c.of.result.now c.firsts.result.now c.of.ensures c.firsts.ensures) ∙ summed_rows rel.rows c.args.c classes.of (length rel.rows) (length classes.firsts))
-
-pub sums-requires-clause-below : goal.sums-requires-clause-below
-sums-requires-clause-below c = rw (c.of.ensures, c.firsts.ensures) c.requires.classes.below

@@ -1,5 +1,4 @@
-use Rattle.std.proofs.Common.{◌≡◌, ◌∙◌, ◌<◌, ℕ, length, map, ap, sym, arith, get_or, cond, set, Vec, Global}
-use Rattle.smk_base.specs.Places.{upto}
+use Rattle.std.proofs.Common.{◌∙◌, ◌<◌, ℕ, length, ap, sym, arith, get_or, cond, set, Vec, Global}
 use Rattle.smk_model.specs.{Values.value_at, Lineage.row_at}
 use Rattle.smk_base.proofs.Places.{map_upto}
 use Rattle.smk_model.proofs.Directions.{length_each}
@@ -35,27 +34,3 @@ loop-i-preserved c =
 
 pub returns-clause-within : goal.returns-clause-within
 returns-clause-within c = rw c.loop-i.invariant (bests_below c.args.greatest (λ i. value_at (row_at c.args.rel.now.rows i) c.args.c) c.args.classes.now (length c.args.rel.now.rows) c.loop-i.i c.requires.classes (omega arith))
-
-pub returns-clause-places : goal.returns-clause-places
-returns-clause-places c =
-    let V = λ (i : ℕ). value_at (row_at c.args.rel.now.rows i) c.args.c in
-    let classes = c.args.classes.now in
-    let n : c.loop-i.i ≡ length c.args.rel.now.rows = omega (arith, c.len-i-end.ensures.count) in
-    c.loop-i.invariant ∙ ap (λ k. map (λ p. best_place c.args.greatest V (get_or classes.firsts p 0) (class_places classes.of k p)) (upto (length classes.firsts))) n
-
-pub index-requires : goal.index-requires
-index-requires c =
-    let classes = c.args.classes.now in
-    let V = λ (i : ℕ). value_at (row_at c.args.rel.now.rows i) c.args.c in
-    let i = c.loop-i.i in
-    omega (arith, ap length c.loop-i.invariant, length_each (λ p. best_place c.args.greatest V (get_or classes.firsts p 0) (class_places classes.of i p)) (length classes.firsts), class_known c.args.rel.now.rows classes i c.of-of.result.now c.requires.classes (omega arith) c.of-of.ensures)
-
-pub index_mut-requires : goal.index_mut-requires
-index_mut-requires c =
-    let classes = c.args.classes.now in
-    let V = λ (i : ℕ). value_at (row_at c.args.rel.now.rows i) c.args.c in
-    let i = c.loop-i.i in
-    omega (arith, ap length c.loop-i.invariant, length_each (λ p. best_place c.args.greatest V (get_or classes.firsts p 0) (class_places classes.of i p)) (length classes.firsts), class_known c.args.rel.now.rows classes i c.of-of.result.now c.requires.classes (omega arith) c.of-of.ensures)
-
-pub improves-requires-clause-column : goal.improves-requires-clause-column
-improves-requires-clause-column c = assumption

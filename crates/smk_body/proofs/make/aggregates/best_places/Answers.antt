@@ -1,4 +1,4 @@
-use Rattle.std.proofs.Common.{◌≡◌, ℕ, List, length, subst, IfOk, pos, get_or, arith, All, ◌<◌}
+use Rattle.std.proofs.Common.{◌≡◌, ℕ, List, length, subst, IfOk, pos, get_or}
 use Rattle.smk_base.specs.declared.value.Value.TheVariants as values
 use Rattle.smk_model.specs.{Values.value_at, Lineage.row_at}
 use Rattle.smk_body.proofs.{Folding.bests_agree, Aggregating.{ints_long, value_is}}
@@ -12,18 +12,3 @@ returns-in-Small-clause-places c =
     (bests_agree c.args.greatest (λ i. values.Int (get_or numbers i (pos 0))) (λ i. value_at (row_at rows i) c.args.c) c.args.classes.now (length numbers) (length rows)
     (ints_long rows c.args.c numbers c.in-Small.ensures) (λ i h. value_is rows c.args.c numbers i c.in-Small.ensures h) c.requires.classes)
     c.best_small.ensures.places
-
-pub best_small-requires-clause-classes : goal.best_small-requires-clause-classes
-best_small-requires-clause-classes c = rw (ints_long c.args.rel.now.rows c.args.c c.in-Small.numbers.now c.in-Small.ensures) c.requires.classes
-
-pub best_small-requires-clause-few : goal.best_small-requires-clause-few
-best_small-requires-clause-few c = omega (arith, ints_long c.args.rel.now.rows c.args.c c.in-Small.numbers.now c.in-Small.ensures, c.len-rows.ensures.keeps.few_rows)
-
-pub returns-in-Small-clause-within : goal.returns-in-Small-clause-within
-returns-in-Small-clause-within c = subst (λ (n : ℕ). IfOk c.best_small.result (λ v. All (λ i. i < n) v.items)) (ints_long c.args.rel.now.rows c.args.c c.in-Small.numbers.now c.in-Small.ensures) c.best_small.ensures.within
-
-pub best_cells-requires-in-Wide-clause-classes : goal.best_cells-requires-in-Wide-clause-classes
-best_cells-requires-in-Wide-clause-classes c = c.requires.classes
-
-pub best_cells-requires-clause-classes : goal.best_cells-requires-clause-classes
-best_cells-requires-clause-classes c = c.requires.classes

@@ -38,25 +38,3 @@ loop-i-preserved c =
 
 pub returns-clause-within : goal.returns-clause-within
 returns-clause-within c = rw c.loop-i.invariant (bests_below c.args.greatest (λ i. values.Int (get_or c.args.numbers.now i (pos 0))) c.args.classes.now (length c.args.numbers.now) c.loop-i.i c.requires.classes (omega arith))
-
-pub index_mut-requires : goal.index_mut-requires
-index_mut-requires c =
-    let classes = c.args.classes.now in
-    let V = λ (i : ℕ). values.Int (get_or c.args.numbers.now i (pos 0)) in
-    let i = c.loop-i.i in
-    let known : get_or classes.of i 0 < length classes.firsts = c.requires.classes.below i 0 (omega (arith, c.requires.classes.long, c.loop-i-test.true)) in
-    omega (arith, ap (λ of. get_or of i 0) c.of-of.ensures, ap length c.loop-i.invariant, length_each (λ p. best_place c.args.greatest V (get_or classes.firsts p 0) (class_places classes.of i p)) (length classes.firsts), known)
-
-pub index-requires : goal.index-requires
-index-requires c =
-    let classes = c.args.classes.now in
-    let V = λ (i : ℕ). values.Int (get_or c.args.numbers.now i (pos 0)) in
-    let i = c.loop-i.i in
-    let known : get_or classes.of i 0 < length classes.firsts = c.requires.classes.below i 0 (omega (arith, c.requires.classes.long, c.loop-i-test.true)) in
-    omega (arith, ap (λ of. get_or of i 0) c.of-of.ensures, ap length c.loop-i.invariant, length_each (λ p. best_place c.args.greatest V (get_or classes.firsts p 0) (class_places classes.of i p)) (length classes.firsts), known)
-
-pub bounds-of-i : goal.bounds-of-i
-bounds-of-i c = search rules
-
-pub bounds-numbers-i : goal.bounds-numbers-i
-bounds-numbers-i c = assumption

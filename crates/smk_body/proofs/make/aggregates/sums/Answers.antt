@@ -1,4 +1,4 @@
-use Rattle.std.proofs.{Common.{◌≡◌, ℤ, List, subst, IfOk, arith}, lemmas.Grind.common_steps}
+use Rattle.std.proofs.{Common.{◌≡◌, ℤ, List, subst, IfOk}}
 use Rattle.smk_body.proofs.Aggregating.{ints_low, sums_are}
 use Rattle.smk_body.proofs.make.aggregates.sums.Goals as goal
 
@@ -13,15 +13,3 @@ returns-in-Small-clause-sums c = subst (λ (z : List ℤ). IfOk c.small_sums.res
 
 pub returns-in-Wide-clause-sums : goal.returns-in-Wide-clause-sums
 returns-in-Wide-clause-sums c = subst (λ (z : List ℤ). IfOk c.wide_sums.result (λ v. v.items ≡ z)) (sums_are c.args.rel.now.rows c.args.c c.in-Wide.numbers.now c.args.of.now c.args.count c.in-Wide.ensures c.requires.long) c.wide_sums.ensures.sums
-
-pub wide_sums-requires-clause-long : goal.wide_sums-requires-clause-long
-wide_sums-requires-clause-long c = grind (arith, common_steps)
-
-pub small_sums-requires-clause-long : goal.small_sums-requires-clause-long
-small_sums-requires-clause-long c = grind (arith, common_steps)
-
-pub wide_sums-requires-clause-few : goal.wide_sums-requires-clause-few
-wide_sums-requires-clause-few c = grind (arith, common_steps)
-
-pub small_sums-requires-clause-few : goal.small_sums-requires-clause-few
-small_sums-requires-clause-few c = grind (arith, common_steps)

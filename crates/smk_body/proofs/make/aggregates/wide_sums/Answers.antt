@@ -1,7 +1,5 @@
-use Rattle.std.proofs.{Common.{◌∙◌, pos, arith, get_or, to_z-of_z, ap, length, rules}, lemmas.List.get_or_default}
-use Rattle.smk_body.proofs.Folding.{constant, sum_step, SumStep, sum_over}
-use Rattle.smk_model.proofs.Directions.{length_each}
-use Rattle.smk_body.specs.Halves.{class_places}
+use Rattle.std.proofs.{Common.{◌∙◌, pos, arith, get_or, to_z-of_z}, lemmas.List.get_or_default}
+use Rattle.smk_body.proofs.Folding.{constant, sum_step, SumStep}
 use Rattle.smk_body.proofs.make.aggregates.wide_sums.Goals as goal
 
 pub loop-i-init : goal.loop-i-init
@@ -31,16 +29,3 @@ loop-i-preserved c =
     let g = s.more_fits in
     let h = s.new_fits in
     rw (to_z-of_z f, to_z-of_z g, to_z-of_z h) s.next
-
-pub index_mut-requires : goal.index_mut-requires
-index_mut-requires c =
-    let known = c.requires.below c.loop-i.i 0 c.loop-i-test.true in
-    omega (arith, known, ap length c.loop-i.invariant, length_each (λ p. sum_over c.args.numbers.now (class_places c.args.of.now c.loop-i.i p)) c.args.count)
-
-pub index-requires : goal.index-requires
-index-requires c =
-    let known = c.requires.below c.loop-i.i 0 c.loop-i-test.true in
-    omega (arith, known, ap length c.loop-i.invariant, length_each (λ p. sum_over c.args.numbers.now (class_places c.args.of.now c.loop-i.i p)) c.args.count)
-
-pub returns-clause-long : goal.returns-clause-long
-returns-clause-long c = search rules

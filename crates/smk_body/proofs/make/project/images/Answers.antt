@@ -1,4 +1,4 @@
-use Rattle.std.proofs.{Common.{◌≡◌, ◌∙◌, ◌+◌, ◌++◌, ◌∷◌, [], map, take, length, ap, sym, arith, get_or}, lemmas.List.{map_more, length-map, length-take-le}, lemmas.Grind.common_steps}
+use Rattle.std.proofs.{Common.{◌≡◌, ◌∙◌, ◌+◌, ◌++◌, [], map, take, ap, sym, get_or}, lemmas.List.{map_more}}
 use Rattle.smk_base.specs.{declared.book.plan.Item.TheVariants.Col, Rels.{Relation, beside_rows}}
 use Rattle.smk_model.specs.{Values.Row, Plain.{image, item_at}, Kinds.kind_of_item}
 use Rattle.smk_body.proofs.Besides.{column_more, related}
@@ -19,23 +19,3 @@ loop-item-preserved c =
     ∙ ap (λ (r : Relation). beside_rows (map (image (take k items)) rel.rows) r.rows) c.in_ok-column.ensures
     ∙ column_more (λ (row : Row). []) item_at items k (Col 0) rel.rows c.loop-item-test.true in
     c.in_ok-made-2.ensures ∙ related kinds rows
-
-pub beside-requires-clause-long : goal.beside-requires-clause-long
-beside-requires-clause-long c =
-    let rel = c.args.rel.now in
-    let items = c.args.items.now in
-    let k = c.loop-item.item-index in
-    ap (λ (r : Relation). length r.rows) c.loop-item.invariant ∙ length-map rel.rows (image (take k items))
-    ∙ sym (ap (λ (r : Relation). length r.rows) c.in_ok-column.ensures ∙ length-map rel.rows (λ row. item_at row (get_or items k (Col 0)) ∷ []))
-
-pub beside-requires-clause-few : goal.beside-requires-clause-few
-beside-requires-clause-few c =
-    let items = c.args.items.now in
-    let k = c.loop-item.item-index in
-    omega (arith, ap (λ (r : Relation). length r.kinds) c.loop-item.invariant, length-map (take k items) (kind_of_item c.args.rel.now.kinds), length-take-le k items (omega arith), ap (λ (r : Relation). length r.kinds) c.in_ok-column.ensures, c.requires.few, c.loop-item-test.true)
-
-pub returns-clause-kinds : goal.returns-clause-kinds
-returns-clause-kinds c = grind (arith, common_steps)
-
-pub returns-clause-rows : goal.returns-clause-rows
-returns-clause-rows c = grind (arith, common_steps)

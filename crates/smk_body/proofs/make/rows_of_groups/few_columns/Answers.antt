@@ -1,12 +1,7 @@
-use Rattle.std.proofs.{Common.{◌≡◌, [], IfOk, arith, subst}, lemmas.List.nil_from_length}
+use Rattle.std.proofs.{Common.{◌≡◌, IfOk, subst}, lemmas.List.nil_from_length}
 use Rattle.smk_base.specs.Rels.{Relation}
-use Rattle.smk_body.proofs.Parting.{first_places_are, no_aggregates}
+use Rattle.smk_body.proofs.Parting.{no_aggregates}
 use Rattle.smk_body.proofs.make.rows_of_groups.few_columns.Goals as goal
-
-pub columns_at-requires : goal.columns_at-requires
-columns_at-requires c =
-    let are = c.requires.aggs.numbered in
-    first_places_are c.args.rel.now c.args.groups.now c.firsts.result.now [] (λ k d h. absurd (omega arith)) (omega arith) (omega (arith, are.long, c.len-rows.ensures.keeps.few_rows)) are c.firsts.ensures
 
 pub returns-then-aggs-eq0 : goal.returns-then-aggs-eq0
 returns-then-aggs-eq0 c =

@@ -1,6 +1,6 @@
-use Rattle.std.proofs.{Common.{◌∙◌, ap, arith, ◌≡◌, ◌++◌, length}, lemmas.Grind.common_steps, lemmas.Result.IfOk-weaker, lemmas.List.Elements.All-weaker}
+use Rattle.std.proofs.{Common.{◌∙◌, ap, length}, lemmas.List.Elements.All-weaker}
 use Rattle.smk_base.specs.Rels.{Relation, RowFits}
-use Rattle.smk_body.proofs.{Fitting.{length-wider_kinds, wider_columns}, Uniting.{left_wider, right_wider, row_wider}, Besides.relation}
+use Rattle.smk_body.proofs.{Fitting.{length-wider_kinds, wider_columns}, Uniting.{left_wider, right_wider, row_wider}}
 use Rattle.smk_model.specs.Kinds.{wider_kinds}
 use Rattle.smk_body.proofs.make.unions.put_behind.Goals as goal
 
@@ -22,21 +22,3 @@ followed_by-requires-clause-wider c =
     let e = c.as_slice.ensures.value ∙ c.in_ok-kinds.ensures in
     let kinds = ap (λ (r : Relation). r.kinds) c.in_ok-wide.ensures ∙ e in
     rw kinds (right_wider c.args.left.kinds c.args.right.now.kinds c.requires.alike)
-
-pub followed_by-requires-clause-few : goal.followed_by-requires-clause-few
-followed_by-requires-clause-few c = grind (arith, common_steps)
-
-pub union_kinds-requires : goal.union_kinds-requires
-union_kinds-requires c = assumption
-
-pub returns-clause-kinds : goal.returns-clause-kinds
-returns-clause-kinds c =
-    let wide = c.in_ok-wide.wide in
-    IfOk-weaker c.followed_by.result (λ (r : Relation). r ≡ relation wide.kinds (wide.rows ++ c.args.right.now.rows)) (λ (r : Relation). r.kinds ≡ wider_kinds c.args.left.kinds c.args.right.now.kinds)
-    (λ r e. ap (λ (r : Relation). r.kinds) e ∙ (ap (λ (r : Relation). r.kinds) c.in_ok-wide.ensures ∙ c.as_slice.ensures.value ∙ c.in_ok-kinds.ensures)) c.followed_by.ensures
-
-pub returns-clause-rows : goal.returns-clause-rows
-returns-clause-rows c =
-    let wide = c.in_ok-wide.wide in
-    IfOk-weaker c.followed_by.result (λ (r : Relation). r ≡ relation wide.kinds (wide.rows ++ c.args.right.now.rows)) (λ (r : Relation). r.rows ≡ c.args.left.rows ++ c.args.right.now.rows)
-    (λ r e. ap (λ (r : Relation). r.rows) e ∙ ap (λ (r : Relation). r.rows ++ c.args.right.now.rows) c.in_ok-wide.ensures) c.followed_by.ensures

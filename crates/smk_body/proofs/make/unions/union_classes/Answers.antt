@@ -1,4 +1,4 @@
-use Rattle.std.proofs.{Common.{◌≡◌, ◌∙◌, ◌++◌, List, ℕ, length, map, ap, arith}, lemmas.Grind.common_steps}
+use Rattle.std.proofs.{Common.{◌≡◌, ◌∙◌, ◌++◌, List, ℕ, length, map, ap, arith}}
 use Rattle.smk_base.specs.{Places.upto, Rels.picked}
 use Rattle.smk_keys.specs.Classes.{ClassesImage, classes_of}
 use Rattle.smk_body.proofs.{Classing.length_firsts, Partnering.alike_all, Uniting.all_columns_of}
@@ -27,6 +27,3 @@ returns-then-firsts-clause-many c = λ e.
     ∙ ap (λ (z : List ℕ). classes_of (map (picked (upto (length left.kinds))) left.rows ++ map (picked z) right.rows)) (c.as_slice-2.ensures.value ∙ cols)
     ∙ ap classes_of (all_columns_of left.kinds right.kinds left.rows right.rows c.requires c.width.ensures.keeps.fit c.len-right_rows.ensures.keeps.fit) in
     omega (arith, ap length (c.firsts.ensures ∙ ap (λ (m : ClassesImage). m.firsts) is), length_firsts (left.rows ++ right.rows))
-
-pub returns-clause-few : goal.returns-clause-few
-returns-clause-few c = grind (arith, common_steps)

@@ -1,6 +1,6 @@
-use Rattle.std.proofs.{Common.{◌∙◌, ◌<◌, length, arith}, lemmas.List.{take_more, take_all}, lemmas.Grind.common_steps, lemmas.Slice.Zip.AllZip-long}
+use Rattle.std.proofs.{Common.{◌∙◌, ◌<◌, length, arith}, lemmas.List.{take_more, take_all}, lemmas.Grind.common_steps}
 use Rattle.smk_base.specs.declared.value.Kind.TheVariants as kinds
-use Rattle.smk_model.specs.Kinds.{wider_kinds, AreAlike}
+use Rattle.smk_model.specs.Kinds.{wider_kinds}
 use Rattle.smk_body.proofs.Fitting.{length-wider_kinds, kind_in-wider_kinds}
 use Rattle.smk_body.proofs.make.unions.union_kinds.Goals as goal
 
@@ -18,6 +18,3 @@ pub returns : goal.returns
 returns c =
     let long = length-wider_kinds c.args.left.now.kinds c.args.right.now.kinds c.requires in
     c.loop-c.invariant ∙ take_all c.loop-c.c (wider_kinds c.args.left.now.kinds c.args.right.now.kinds) (omega arith)
-
-pub kind-requires-in-loop-c : goal.kind-requires-in-loop-c
-kind-requires-in-loop-c c = omega (arith, AllZip-long AreAlike c.args.left.now.kinds c.args.right.now.kinds c.requires)

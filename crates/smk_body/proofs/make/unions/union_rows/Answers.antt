@@ -1,7 +1,7 @@
-use Rattle.std.proofs.{Common.{◌≡◌, ◌∙◌, ◌<◌, ◌≤◌, ◌++◌, ◌-◌, List, ℕ, length, map, take, drop, ap, sym, All, subst, get_or, arith}, lemmas.Grind.common_steps, lemmas.List.length-take-le, lemmas.Result.IfOk-weaker}
+use Rattle.std.proofs.{Common.{◌≡◌, ◌∙◌, ◌<◌, ◌≤◌, ◌++◌, ◌-◌, List, ℕ, length, map, take, drop, ap, sym, All, subst, get_or}, lemmas.Result.IfOk-weaker}
 use Rattle.smk_base.specs.Rels.{Relation, rows_at}
 use Rattle.smk_keys.specs.Classes.{ClassesImage}
-use Rattle.smk_model.specs.{Classes.first_places, Plain.firsts, Kinds.wider_kinds}
+use Rattle.smk_model.specs.{Classes.first_places, Plain.firsts}
 use Rattle.smk_model.proofs.Classes.{first_keys, first_below}
 use Rattle.smk_body.proofs.{Classing.rest_of, Uniting.{sub_split, first_high, right_within}}
 use Rattle.smk_body.proofs.make.unions.union_rows.Goals as goal
@@ -42,24 +42,3 @@ returns-clause-rows c =
     ∙ ap (λ (z : List ℕ). rows_at L (take k z) ++ rows_at R (map (λ i. i - length L) (drop k z))) F
     ∙ sym (sub_split L R (first_places K) k low high) ∙ first_keys K)
     c.put_behind.ensures.rows
-
-pub put_behind-requires-clause-few : goal.put_behind-requires-clause-few
-put_behind-requires-clause-few c = grind (arith, common_steps)
-
-pub gather-requires-2-clause-few : goal.gather-requires-2-clause-few
-gather-requires-2-clause-few c = grind (arith, common_steps)
-
-pub put_behind-requires-clause-alike : goal.put_behind-requires-clause-alike
-put_behind-requires-clause-alike c = rw (ap (λ (r : Relation). r.kinds) c.in_ok-lefts.ensures, ap (λ (r : Relation). r.kinds) c.in_ok-rights.ensures) c.requires.alike
-
-pub slice_bounds-gather-end : goal.slice_bounds-gather-end
-slice_bounds-gather-end c = sym (length-take-le c.count_below-count.result c.firsts-firsts.result.now c.count_below-count.ensures.within)
-
-pub returns-clause-kinds : goal.returns-clause-kinds
-returns-clause-kinds c =
-    let L = c.args.left.now.kinds in
-    let R = c.args.right.now.kinds in
-    let lefts = c.in_ok-lefts.lefts in
-    let rights = c.in_ok-rights.rights in
-    IfOk-weaker c.put_behind.result (λ (r : Relation). r.kinds ≡ wider_kinds lefts.kinds rights.kinds) (λ (r : Relation). r.kinds ≡ wider_kinds L R)
-    (λ r e. e ∙ ap (λ (m : Relation). wider_kinds m.kinds rights.kinds) c.in_ok-lefts.ensures ∙ ap (λ (m : Relation). wider_kinds L m.kinds) c.in_ok-rights.ensures) c.put_behind.ensures.kinds
