@@ -1,4 +1,4 @@
-use Rattle.std.proofs.{Common.{◌≡◌, ℤ, List, subst, IfOk}}
+use Rattle.std.proofs.Common.{◌≡◌, ℤ, List, subst, IfOk}
 use Rattle.smk_body.proofs.Aggregating.{ints_low, sums_are}
 use Rattle.smk_body.proofs.make.aggregates.sums.Goals as goal
 

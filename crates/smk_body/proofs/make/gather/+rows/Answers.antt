@@ -1,8 +1,7 @@
 use Rattle.std.proofs.{Common.{◌≡◌, ◌∙◌, ap, map, ◌++◌}, lemmas.Result.{IfOk-at_ok, IfOk-weaker}}
 use Rattle.smk_base.specs.Rels.{Relation, kind_in}
 use Rattle.smk_body.specs.Parts.{columns_of}
-use Rattle.smk_body.proofs.Parting.{rows_behind, same_wider}
-use Rattle.smk_body.proofs.Besides.{relation}
+use Rattle.smk_body.proofs.{Parting.{rows_behind, same_wider}, Besides.relation}
 use Rattle.smk_body.proofs.make.gather.+rows.Goals as goal
 
 pub followed_by-requires-clause-wider : goal.followed_by-requires-clause-wider

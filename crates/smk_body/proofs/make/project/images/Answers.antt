@@ -1,4 +1,4 @@
-use Rattle.std.proofs.{Common.{◌≡◌, ◌∙◌, ◌+◌, ◌++◌, [], map, take, ap, sym, get_or}, lemmas.List.{map_more}}
+use Rattle.std.proofs.{Common.{◌≡◌, ◌∙◌, ◌+◌, ◌++◌, [], map, take, ap, sym, get_or}, lemmas.List.map_more}
 use Rattle.smk_base.specs.{declared.book.plan.Item.TheVariants.Col, Rels.{Relation, beside_rows}}
 use Rattle.smk_model.specs.{Values.Row, Plain.{image, item_at}, Kinds.kind_of_item}
 use Rattle.smk_body.proofs.Besides.{column_more, related}

@@ -1,4 +1,4 @@
-use Rattle.std.proofs.{Common.{◌≡◌, ◌∙◌, ◌++◌, List, ℕ, length, map, ap, arith}}
+use Rattle.std.proofs.Common.{◌≡◌, ◌∙◌, ◌++◌, List, ℕ, length, map, ap, arith}
 use Rattle.smk_base.specs.{Places.upto, Rels.picked}
 use Rattle.smk_keys.specs.Classes.{ClassesImage, classes_of}
 use Rattle.smk_body.proofs.{Classing.length_firsts, Partnering.alike_all, Uniting.all_columns_of}
