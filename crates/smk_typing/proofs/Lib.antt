@@ -8,5 +8,4 @@ pub mod PlansFit
 pub mod CatalogsFit
 pub mod Books
 pub mod NeedsBelow
-pub mod Turns
 pub mod AskSteps

@@ -1,1 +1,0 @@
--- A list whose members are taken in turn, member by member.
